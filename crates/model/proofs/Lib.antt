@@ -1,0 +1,4 @@
+-- Laws by subject, and the theorems.
+pub mod Tests
+pub mod OrderLaws
+pub mod PlaceLaws

@@ -1,0 +1,26 @@
+-- What a reader must believe, in the order of document 01.
+pub mod Places
+pub mod Classes
+pub mod Values
+pub mod Parts
+pub mod Rules
+pub mod View
+pub mod Replies
+pub mod Numbers
+pub mod Lines
+pub mod Forms
+pub mod Texts
+pub mod Records
+pub mod Sheets
+pub mod Rooms
+pub mod Commands
+pub mod Answers
+pub mod Checks
+pub mod Effects
+pub mod Verdicts
+pub mod Tapes
+pub mod Bench
+pub mod Panel
+pub mod Conditions
+pub mod Plainly
+pub mod Claims
