@@ -9,3 +9,4 @@ pub mod TapeLaws
 pub mod Clear
 pub mod WalkLaws
 pub mod DeedLaws
+pub mod CardLaws

@@ -27,6 +27,7 @@ use Rattle.model.specs.Effects.{changeTable}
 use Rattle.model.specs.Verdicts.{Offer, outcome, judge, judgement, verdict, changed}
 use Rattle.model.specs.Tapes.{log, final, known, knownOf}
 use Rattle.model.specs.Conditions.{Some, Above, Visible, First, NoneHolds, Good, refusalRows, allRows}
+use Rattle.model.specs.Cards.{got, want}
 use Rattle.model.specs.Plainly.{plainly, strikeNamed, amendNamed, Met}
 
 -- ---- dominance, for any number of marks
@@ -156,3 +157,7 @@ abbrev pub WrittenReads : Type 0
 WrittenReads =
     (w : ℕ) (h : Heading) (s : Store) (room : Bytes) → writing w h s room .reply ≡ Done → writing w h s room .length ≤ 65536
     → reading w (take (writing w h s room .length) (writing w h s room .room)) ≡ taken h s
+
+-- ---- the clerk's cards
+abbrev pub Cards : Type 0
+Cards = got ≡ want

@@ -23,4 +23,5 @@ pub mod Bench
 pub mod Panel
 pub mod Conditions
 pub mod Plainly
+pub mod Cards
 pub mod Claims
