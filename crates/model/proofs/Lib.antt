@@ -10,3 +10,15 @@ pub mod Clear
 pub mod WalkLaws
 pub mod DeedLaws
 pub mod CardLaws
+pub mod Every
+pub mod OptionLaws
+pub mod NumberLaws
+pub mod DecimalLaws
+pub mod LineLaws
+pub mod FormLaws
+pub mod TextLaws
+pub mod RecordLaws
+pub mod PlacingLaws
+pub mod ShapeLaws
+pub mod RangeLaws
+pub mod SheetLaws
