@@ -18,14 +18,18 @@ use Rattle.model.specs.Values.{hide, isHidden, mark}
 use Rattle.model.specs.Parts.{Column, Row, Table}
 use Rattle.model.specs.View.{cut, openTable, viewColumn, viewColumns, viewField, viewFields, viewGroups, viewRow}
 use Rattle.model.specs.Lines.{nothing}
-use Rattle.model.specs.Commands.{Change, Given, New, delete, insert, newClass, newField, newValue, update}
+use Rattle.model.specs.Records.{later}
+use Rattle.model.specs.Commands.{Change, Condition, Given, New, delete, insert, newClass, newField, newValue, update}
+use Rattle.model.specs.Answers.{Shown, answer, meets, numberedFrom}
 use Rattle.model.specs.Checks.{allows, checks, names, noColumn, own, tableChecks, takesFrom, uncovers, uncoversAt, unnamed}
 use Rattle.model.specs.Effects.{amend, amendRow, changeTable, edit, entryFor, fill, given, lets, newRow, newRows, renew, renewAll, strike, touch}
 use Rattle.model.specs.Conditions.{Some, There, Visible}
-use Rattle.model.specs.Plainly.{amendNamed, putAll, putNamed, strikeNamed}
-use Rattle.model.specs.Claims.{DeleteDoes, InsertDoes, UpdateDoes}
+use Rattle.model.specs.Plainly.{Met, amendNamed, putAll, putNamed, strikeNamed}
+use Rattle.model.specs.Claims.{DeleteDoes, InsertDoes, SelectDoes, UpdateDoes}
 use Rattle.model.proofs.Tests.{both, nor-fst, nor-snd, not-false, or-none}
 use Rattle.model.proofs.PlaceLaws.{at-onPlaces}
+use Rattle.model.proofs.Reflects.{Reflects, always, and-reflects, not-reflects, nothing-there, sure-reflects}
+use Rattle.model.proofs.ValueTests.{hidden-reflects}
 use Rattle.model.proofs.Clear.{passed}
 use Rattle.model.proofs.WalkLaws.{walk-plainly}
 
@@ -262,3 +266,54 @@ insert-does w room c gs t e =
         fails-unless : (b : Bool) → ¬ (b ≡ true) → b ≡ false
         fails-unless true f = absurd (f refl)
         fails-unless false f = refl
+
+-- ---- select
+meets-met : (q : Option Condition) (r : Row) → Reflects (meets q r) (Met q r)
+unfolding meets
+meets-met none r = always tt
+meets-met (some q) r =
+    sure-reflects
+    (λ (f : Field). and-reflects (not-reflects (hidden-reflects (f .value))) (λ e. e, λ e. e))
+    (at (q .column) (r .fields))
+
+module _ (q : Option Condition) where
+  abbrev Answers : ℕ → Row → Shown → Type 0
+  Answers i r x = (x .number ≡ i) × (x .row ≡ r)
+
+  abbrev stay : Shown → Option Shown
+  stay x = when (meets q (x .row)) x
+
+  -- the rows from number n on
+  found-down : (n m : ℕ) (r : Row) (rows : List Row) → Some (Answers m r) (gather stay (numberedFrom n rows)) → (j : ℕ) × (m ≡ n + j) × (nth j rows ≡ some r) × Met q r
+  unfolding numberedFrom
+  found-down n m r [] h = absurd h
+  found-down n m r (x ∷ rows) h = go (meets q x) refl h (found-down (suc n) m r rows)
+    where
+      go : (b : Bool) → meets q x ≡ b → Some (Answers m r) (push (when b (record { number = n; row = x })) (gather stay (numberedFrom (suc n) rows)))
+          → (Some (Answers m r) (gather stay (numberedFrom (suc n) rows)) → (j : ℕ) × (m ≡ suc n + j) × (nth j rows ≡ some r) × Met q r)
+          → (j : ℕ) × (m ≡ n + j) × (nth j (x ∷ rows) ≡ some r) × Met q r
+      go true p (inl k) ih = (zero, sym (k .0) ∙ omega arith, ap some (k .1), rw (k .1) at (meets-met q x .0 p))
+      go true p (inr k) ih = let (j, e, f, g) = ih k in (suc j, e ∙ omega arith, f, g)
+      go false p k ih = let (j, e, f, g) = ih k in (suc j, e ∙ omega arith, f, g)
+
+  found-up : (n j : ℕ) (r : Row) (rows : List Row) → nth j rows ≡ some r → Met q r → Some (Answers (n + j) r) (gather stay (numberedFrom n rows))
+  unfolding numberedFrom
+  found-up n j r [] e h = nothing-there e
+  found-up n zero r (x ∷ rows) e h =
+      let z : x ≡ r = cc in
+      rw (z, meets-met q r .1 h) (inl (omega arith, refl))
+  found-up n (suc j) r (x ∷ rows) e h = later (meets q x) (let y : suc n + j ≡ n + suc j = omega arith in rw y at (found-up (suc n) j r rows e h))
+    where
+      later : (b : Bool) → Some (Answers (n + suc j) r) (gather stay (numberedFrom (suc n) rows)) → Some (Answers (n + suc j) r) (push (when b (record { number = n; row = x })) (gather stay (numberedFrom (suc n) rows)))
+      later true k = inr k
+      later false k = k
+
+pub select-does : SelectDoes
+unfolding changeTable newRows answer
+select-does c q t = (
+  refl,
+  λ i r. (
+    λ h. let (j, e, f, g) = found-down q zero i r (t .rows) h in let z : i ≡ j = e ∙ omega arith in (rw z f, g),
+    λ h. let z : zero + i ≡ i = omega arith in rw z at (found-up q zero i r (t .rows) (h .0) (h .1)),
+  ),
+)

@@ -18,10 +18,10 @@ min-assoc x y z = omega arith
 low-digit : (a b : ℕ) → min (a % 2) (b % 2) < 2
 low-digit a b = omega arith
 
-and-half : (a b : ℕ) → bitAnd a b / 2 ≡ bitAnd (a / 2) (b / 2)
+pub and-half : (a b : ℕ) → bitAnd a b / 2 ≡ bitAnd (a / 2) (b / 2)
 and-half a b = ap (λ (x : ℕ). x / 2) (and-step a b) ∙ digits-div (bitAnd (a / 2) (b / 2)) (low-digit a b)
 
-and-odd : (a b : ℕ) → bitAnd a b % 2 ≡ min (a % 2) (b % 2)
+pub and-odd : (a b : ℕ) → bitAnd a b % 2 ≡ min (a % 2) (b % 2)
 and-odd a b = ap (λ (x : ℕ). x % 2) (and-step a b) ∙ digits-mod (bitAnd (a / 2) (b / 2)) (low-digit a b)
 
 -- (lib.Bits has no associativity)

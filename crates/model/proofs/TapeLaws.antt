@@ -16,11 +16,13 @@ use Rattle.model.specs.Commands.{Line, client, command, nobodys, readLin
 use Rattle.model.specs.Answers.{answerText}
 use Rattle.model.specs.Verdicts.{Offer, Verdict, after, answerBytes, lineStore, lineVerdict, outcome, verdict, verdictOn}
 use Rattle.model.specs.Tapes.{Answered, answered, final, known, knownOf, knows, log}
-use Rattle.model.specs.Claims.{CommandKeeps, Demand3, ViewKeeps}
+use Rattle.model.specs.Claims.{Demand3}
 use Rattle.model.proofs.ViewLaws.{view-again}
 use Rattle.model.proofs.Unwinding.{changed-silent, changed-steady, same-judgement}
+use Rattle.model.proofs.SoundLaws.{view-keeps}
+use Rattle.model.proofs.KeepLaws.{command-keeps}
 
-module _ (view-keeps : ViewKeeps) (command-keeps : CommandKeeps) (w : ℕ) (C : Class) where
+module _ (w : ℕ) (C : Class) where
   -- ---- one line, on stores that keep the rules
   module _ (room : ℕ) where
     line-same : (l : Line) → sure (dominates C) (client l) ≡ true → (s t : Store) → view C s ≡ view C t → lineVerdict w room s l ≡ lineVerdict w room t l
@@ -79,5 +81,5 @@ module _ (view-keeps : ViewKeeps) (command-keeps : CommandKeeps) (w : ℕ) (C : 
           )
       go false h ih = rw h (ih (outcome w s o .store) t (command-keeps w s o (k .0), k .1, store-silent o h s (k .0) ∙ k .2))
 
-pub demand-3-by : ViewKeeps → CommandKeeps → Demand3
-demand-3-by view-keeps command-keeps w C os s p = tape view-keeps command-keeps w C os s (view C s) (p, view-keeps w C s p, sym (view-again C s))
+pub demand-3 : Demand3
+demand-3 w C os s p = tape w C os s (view C s) (p, view-keeps w C s p, sym (view-again C s))

@@ -1,34 +1,34 @@
 -- What is proved of the definitions. Each claim is a type; proofs/Theorems.antt has a proof of each.
 -- Assumes nothing.
 use mathlib.Core.Path.{_≡_}
-use mathlib.Core.Logic.{_↔_}
-use mathlib.Core.Bool.{Bool, true, false, _&&_}
-use mathlib.Core.List.{List, [], _∷_, _++_}
-use mathlib.Core.Option.{Option, none, some}
-use Prim.Native.Nat.{ℕ, zero, _≤_}
+use mathlib.Core.Logic.{_↔_, _⊎_}
+use mathlib.Core.Bool.{_&&_, false, true}
+use mathlib.Core.List.{List, [], _++_, _∷_}
+use mathlib.Core.Option.{Option, some}
+use Prim.Native.Nat.{_≤_, ℕ}
 use lib.ListN.{length, take}
 use Rattle.model.specs.declared.Class.{Class}
-use Rattle.model.specs.declared.Value.{Value}
 use Rattle.model.specs.declared.Reply.{Reply}
-use Rattle.model.specs.declared.Reply.the-variants.{Done}
-use Rattle.model.specs.Places.{at, nth}
-use Rattle.model.specs.Classes.{dominates, common}
-use Rattle.model.specs.Values.{valueSound, sameValue}
-use Rattle.model.specs.Parts.{Row, Column, Table, Store, tableAt}
+use Rattle.model.specs.declared.Reply.the-variants.{Done, LeftOut}
+use Rattle.model.specs.declared.Value.{Value}
+use Rattle.model.specs.Places.{at, mapO, nth}
+use Rattle.model.specs.Classes.{common, dominates}
+use Rattle.model.specs.Values.{sameValue, valueSound}
+use Rattle.model.specs.Parts.{Column, Row, Store, Table, tableAt}
 use Rattle.model.specs.Rules.{rules}
 use Rattle.model.specs.View.{openTable, view}
 use Rattle.model.specs.Replies.{accepts}
 use Rattle.model.specs.Numbers.{Bytes}
-use Rattle.model.specs.Sheets.{Heading, sheetText, mayStand, taken, reading}
+use Rattle.model.specs.Sheets.{Heading, mayStand, reading, refused, sheetText, taken}
 use Rattle.model.specs.Rooms.{writing}
-use Rattle.model.specs.Commands.{Given, Change, Condition, Action, insert, delete, update, select, Command, Line}
+use Rattle.model.specs.Commands.{Action, Change, Command, Condition, Given, Line, delete, insert, select, update}
 use Rattle.model.specs.Answers.{Shown, answer}
 use Rattle.model.specs.Effects.{changeTable}
-use Rattle.model.specs.Verdicts.{Offer, outcome, judge, judgement, verdict, changed}
-use Rattle.model.specs.Tapes.{log, final, known, knownOf}
-use Rattle.model.specs.Conditions.{Some, Above, Visible, First, NoneHolds, Good, refusalRows, allRows}
+use Rattle.model.specs.Verdicts.{Offer, changed, judge, judgement, outcome, verdict}
+use Rattle.model.specs.Tapes.{final, known, knownOf, log}
+use Rattle.model.specs.Conditions.{Above, First, Good, NoneHolds, Some, Visible, allRows, readingRows, refusalRows, writingRows}
+use Rattle.model.specs.Plainly.{Met, amendNamed, classesOf, plainly, strikeNamed}
 use Rattle.model.specs.Cards.{got, want}
-use Rattle.model.specs.Plainly.{plainly, strikeNamed, amendNamed, Met}
 
 -- ---- dominance, for any number of marks
 abbrev pub Dominance : Type 0
@@ -66,10 +66,21 @@ RefusalLeaves =
     (w : ℕ) (s : Store) (o : Offer) → accepts (outcome w s o .reply) ≡ false
     → outcome w s o ≡ record { reply = outcome w s o .reply; length = 0; room = o .room; store = s }
 
+-- no room grows or shrinks
+abbrev pub AnswerRoom : Type 0
+AnswerRoom = (w : ℕ) (s : Store) (o : Offer) → length (outcome w s o .room) ≡ length (o .room)
+
+abbrev pub SheetRoom : Type 0
+SheetRoom = (w : ℕ) (h : Heading) (s : Store) (room : Bytes) → length (writing w h s room .room) ≡ length room
+
 -- ---- given exactly when
 -- a reply is given exactly when its row of the table holds and no row above it does
 abbrev pub GivenExactly : Type 0
 GivenExactly = (w room : ℕ) (s : Store) (l : Line) (r : Reply) → (verdict w room s l .reply ≡ r) ↔ First r (allRows w room s l)
+
+-- what counts as accepted: 0 and 1
+abbrev pub Accepting : Type 0
+Accepting = (r : Reply) → (accepts r ≡ true) ↔ ((r ≡ Done) ⊎ (r ≡ LeftOut))
 
 -- a command is accepted exactly when no refusal's row holds
 abbrev pub AcceptedExactly : Type 0
@@ -105,6 +116,12 @@ abbrev pub ChangesNowhereElse : Type 0
 ChangesNowhereElse =
     (w room : ℕ) (s : Store) (k : Command) (d t : ℕ) → ¬ ((d ≡ k .directory) × (t ≡ k .table))
     → tableAt d t (changed w room s k) ≡ tableAt d t s
+
+-- nor do a directory's classes
+abbrev pub DirectoriesStay : Type 0
+DirectoriesStay =
+    (w room : ℕ) (s : Store) (k : Command) (d : ℕ)
+    → mapO classesOf (at d (changed w room s k)) ≡ mapO classesOf (at d s)
 
 -- insert: the new row stands last, its existence class is the clearance; a column that the client sees holds the field given for it,
 -- any other its default
@@ -151,6 +168,13 @@ abbrev pub RoundTrip : Type 0
 RoundTrip =
     (w : ℕ) (bs : Bytes) (h : Heading) (s : Store)
     → (reading w bs ≡ taken h s) ↔ ((mayStand w h s ≡ true) × (length bs ≤ 65536) × (sheetText w h s ≡ bs))
+
+-- a sheet is refused exactly when its row of the table holds and no row above it does; the same of writing
+abbrev pub ReadingExactly : Type 0
+ReadingExactly = (w : ℕ) (bs : Bytes) (r : Reply) → (reading w bs ≡ refused r) ↔ First r (readingRows w bs)
+
+abbrev pub WritingExactly : Type 0
+WritingExactly = (w : ℕ) (h : Heading) (s : Store) (room : Bytes) (r : Reply) → (writing w h s room .reply ≡ r) ↔ First r (writingRows w h s room)
 
 -- a store that is written into a room is read back from it
 abbrev pub WrittenReads : Type 0

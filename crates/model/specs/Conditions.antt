@@ -3,25 +3,30 @@
 use mathlib.Core.Path.{_≡_}
 use mathlib.Core.Logic.{_⊎_}
 use mathlib.Core.Bool.{true}
-use mathlib.Core.List.{List, [], _∷_, _++_}
+use mathlib.Core.List.{List, [], _++_, _∷_}
 use mathlib.Core.Option.{Option, none, some}
-use Prim.Native.Nat.{ℕ, zero, suc, _/_, _%_, _^_, _≤_, _<_}
-use lib.ListN.{length}
+use Prim.Native.Nat.{_%_, _/_, _<_, _^_, _≤_, suc, zero, ℕ}
 use lib.Ieee.{Float}
+use lib.ListN.{length}
 use Rattle.model.specs.declared.Class.{Class}
-use Rattle.model.specs.declared.Value.{Value}
-use Rattle.model.specs.declared.Value.the-variants.{Blank, Count, Rate, Nan, Classed, Hidden}
-use Rattle.model.specs.declared.Kind.{Kind}
-use Rattle.model.specs.declared.Kind.the-variants.{Counts, Rates, Classes}
 use Rattle.model.specs.declared.Field.{Field}
+use Rattle.model.specs.declared.Kind.{Kind}
+use Rattle.model.specs.declared.Kind.the-variants.{Classes, Counts, Rates}
 use Rattle.model.specs.declared.Reply.{Reply}
-use Rattle.model.specs.declared.Reply.the-variants.{Done, LeftOut, BadLine, NoTable, TableAbove, NamedTwice, NoColumn, NoRow, NotNamed, Misfit, NoBerth, BerthFull, NotYours, Uncovers, RoomShort, RuleBroken}
-use Rattle.model.specs.Places.{Places, at, nth}
-use Rattle.model.specs.Parts.{Row, Column, Table, Store, tableAt}
+use Rattle.model.specs.declared.Reply.the-variants.{BadLine, BadSheet, BerthFull, Done, LeftOut, Misfit, NamedTwice, NoBerth, NoColumn, NoRow, NoTable, NotNamed, NotYours, RoomShort, RuleBroken, SheetLong, TableAbove, Uncovers}
+use Rattle.model.specs.declared.Value.{Value}
+use Rattle.model.specs.declared.Value.the-variants.{Blank, Classed, Count, Hidden, Nan, Rate}
+use Rattle.model.specs.Places.{at, nth}
+use Rattle.model.specs.Parts.{Column, Row, Store, Table, tableAt}
 use Rattle.model.specs.Rules.{rules}
-use Rattle.model.specs.View.{view}
-use Rattle.model.specs.Commands.{Given, New, newClass, newValue, newField, Change, Condition, Action, insert, delete, update, select, Command, Line, nobodys, unformed, command}
+use Rattle.model.specs.View.{seen, view}
+use Rattle.model.specs.Numbers.{Bytes}
+use Rattle.model.specs.Lines.{whole}
+use Rattle.model.specs.Records.{berth}
+use Rattle.model.specs.Sheets.{Heading, mayStand, readSheet, sheetText}
+use Rattle.model.specs.Commands.{Action, Change, Command, Condition, Given, Line, New, command, delete, insert, newClass, newField, newValue, nobodys, select, unformed, update}
 use Rattle.model.specs.Answers.{answer, answerText}
+use Rattle.model.specs.Checks.{own}
 
 -- ---- lists and places
 module _ {A : Type 0} where
@@ -148,6 +153,22 @@ module _ (w room : ℕ) (s : Store) where
 
   abbrev pub allRows : Line → Rows
   allRows l = (RuleBroken, ¬ (rules w s ≡ true)) ∷ lineRows l
+
+-- ---- the rows for sheets: reading, and writing into a room
+module _ (w : ℕ) where
+  abbrev pub readingRows : Bytes → Rows
+  readingRows bs =
+      (SheetLong, 65536 < length bs)
+      ∷ (BadSheet, ¬ There (λ (x : Heading × Store). Unit {0}) (readSheet w bs))
+      ∷ (RuleBroken, There (λ (x : Heading × Store). ¬ (mayStand w (x .0) (x .1) ≡ true)) (readSheet w bs))
+      ∷ []
+
+  abbrev pub writingRows : Heading → Store → Bytes → Rows
+  writingRows h s room =
+      (RuleBroken, ¬ (mayStand w h s ≡ true))
+      ∷ (RoomShort, length room < length (sheetText w h s))
+      ∷ (Done, Unit {0})
+      ∷ []
 
 -- r is the reply of the first row that holds
 abbrev pub First : Reply → Rows → Type 0
