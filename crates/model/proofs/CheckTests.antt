@@ -21,13 +21,14 @@ use Rattle.model.specs.Classes.{same}
 use Rattle.model.specs.Values.{fits}
 use Rattle.model.specs.Parts.{Column, Row, Table}
 use Rattle.model.specs.Rules.{inBerth}
-use Rattle.model.specs.Records.{numbered}
+use Rattle.model.specs.Forms.{only}
 use Rattle.model.specs.Commands.{Change, Condition, Given, New, newClass, newField, newValue}
 use Rattle.model.specs.Answers.{unknown}
 use Rattle.model.specs.Checks.{allows, asksMisfit, asksUnseen, misfit, names, newFits, noBerth, noColumn, noRow, own, sameColumn, samePlace, takesFrom, uncovers, uncoversAt, unnamed}
 use Rattle.model.specs.Conditions.{Above, Allowed, AtLeast, Brings, Some, TakesNot, There, Uncovering, Visible}
 use Rattle.model.proofs.Tests.{not-both, not-true}
-use Rattle.model.proofs.Reflects.{Reflects, always, and-reflects, any-reflects, clash, eqb-reflects, never, not-reflects, nothing-there, or-reflects, present-reflects, reworded, same-reflects, sure-reflects}
+use Rattle.model.proofs.OptionLaws.{nothing-is}
+use Rattle.model.proofs.Reflects.{Reflects, always, and-reflects, any-reflects, clash, eqb-reflects, never, not-reflects, or-reflects, present-reflects, reworded, same-reflects, sure-reflects}
 use Rattle.model.proofs.MarkLaws.{dominance}
 use Rattle.model.proofs.ValueTests.{fits-reflects, hidden-reflects}
 
@@ -65,7 +66,7 @@ Unnamed gs n ks = (j : ℕ) × There (λ (k : Column). Unit {0}) (at j ks) × (�
 
 unnamed-from : (gs : List Given) (n : ℕ) (ks : Places Column) → Reflects (unnamed gs n ks) (Unnamed gs n ks)
 unfolding unnamed
-unnamed-from gs n [] = never (λ h. nothing-there (h .1 .1))
+unnamed-from gs n [] = never (λ h. nothing-is (h .1 .1))
 unnamed-from gs n (o ∷ ks) =
     reworded (or-reflects (and-reflects (present-reflects o) (not-reflects (names-reflects gs n))) (unnamed-from gs (suc n) ks))
     (⊎-elim
@@ -123,7 +124,7 @@ misfit-reflects t j (newField f) = brought t j (newField f) (f .value) (inr (f .
 
 -- ---- 10 and 11: no berth, no room in it
 pub berth-reflects : (c : Class) (l : Places Class) → Reflects (any (sure (same c)) l) ((i : ℕ) × (at i l ≡ some c))
-berth-reflects c [] = never (λ h. nothing-there (h .1))
+berth-reflects c [] = never (λ h. nothing-is (h .1))
 berth-reflects c (o ∷ l) =
     reworded (or-reflects (sure-reflects (same-reflects c) o) (berth-reflects c l))
     (⊎-elim (λ h. (zero, h .1 ∙ ap some (sym (h .2)))) (λ h. (suc (h .0), h .1))) (λ h. back (h .0) (h .1))
@@ -183,12 +184,12 @@ uncovers-reflects e r = uncovers-at (e .new) (at (e .column) (r .fields))
 -- ---- 6 and 9 of a condition, and 1
 pub asksUnseen-reflects : (t : Table) (q : Option Condition) → Reflects (asksUnseen t q) (There (λ (x : Condition). ¬ Visible t (x .column)) q)
 unfolding asksUnseen
-asksUnseen-reflects t none = never (λ h. nothing-there (h .1))
+asksUnseen-reflects t none = never (λ h. nothing-is (h .1))
 asksUnseen-reflects t (some q) = sure-reflects (λ (x : Condition). noColumn-reflects t (x .column)) (some q)
 
 pub asksMisfit-reflects : (t : Table) (q : Option Condition) → Reflects (asksMisfit t q) (There (λ (x : Condition). TakesNot t (x .column) (x .value)) q)
 unfolding asksMisfit
-asksMisfit-reflects t none = never (λ h. nothing-there (h .1))
+asksMisfit-reflects t none = never (λ h. nothing-is (h .1))
 asksMisfit-reflects t (some q) = sure-reflects (λ (x : Condition). misfit-value t (x .column) (x .value)) (some q)
 
 -- a row is left out because its condition field is hidden
@@ -196,7 +197,7 @@ pub leftOut-reflects : (q : Option Condition) (rs : List Row)
     → Reflects (any (unknown q) rs) (There (λ (x : Condition). Some (λ (r : Row). There (λ (f : Field). f .value ≡ Hidden) (at (x .column) (r .fields))) rs) q)
 unfolding unknown
 leftOut-reflects none rs =
-    reworded (any-reflects {P = λ (r : Row). ⊥} (λ (r : Row). never (λ h. h)) rs) (λ h. absurd (nobody rs h)) (λ h. nothing-there (h .1))
+    reworded (any-reflects {P = λ (r : Row). ⊥} (λ (r : Row). never (λ h. h)) rs) (λ h. absurd (nobody rs h)) (λ h. nothing-is (h .1))
   where
     nobody : (l : List Row) → ¬ Some (λ (r : Row). ⊥) l
     nobody [] h = h

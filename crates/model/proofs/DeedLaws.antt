@@ -17,8 +17,6 @@ use Rattle.model.specs.Classes.{dominates, same}
 use Rattle.model.specs.Values.{hide, isHidden, mark}
 use Rattle.model.specs.Parts.{Column, Row, Table}
 use Rattle.model.specs.View.{cut, openTable, viewColumn, viewColumns, viewField, viewFields, viewGroups, viewRow}
-use Rattle.model.specs.Lines.{nothing}
-use Rattle.model.specs.Records.{later}
 use Rattle.model.specs.Commands.{Change, Condition, Given, New, delete, insert, newClass, newField, newValue, update}
 use Rattle.model.specs.Answers.{Shown, answer, meets, numberedFrom}
 use Rattle.model.specs.Checks.{allows, checks, names, noColumn, own, tableChecks, takesFrom, uncovers, uncoversAt, unnamed}
@@ -28,7 +26,8 @@ use Rattle.model.specs.Plainly.{Met, amendNamed, putAll, putNamed, strik
 use Rattle.model.specs.Claims.{DeleteDoes, InsertDoes, SelectDoes, UpdateDoes}
 use Rattle.model.proofs.Tests.{both, nor-fst, nor-snd, not-false, or-none}
 use Rattle.model.proofs.PlaceLaws.{at-onPlaces}
-use Rattle.model.proofs.Reflects.{Reflects, always, and-reflects, not-reflects, nothing-there, sure-reflects}
+use Rattle.model.proofs.OptionLaws.{nothing-is}
+use Rattle.model.proofs.Reflects.{Reflects, always, and-reflects, not-reflects, sure-reflects}
 use Rattle.model.proofs.ValueTests.{hidden-reflects}
 use Rattle.model.proofs.Clear.{passed}
 use Rattle.model.proofs.WalkLaws.{walk-plainly}
@@ -298,7 +297,7 @@ module _ (q : Option Condition) where
 
   found-up : (n j : ℕ) (r : Row) (rows : List Row) → nth j rows ≡ some r → Met q r → Some (Answers (n + j) r) (gather stay (numberedFrom n rows))
   unfolding numberedFrom
-  found-up n j r [] e h = nothing-there e
+  found-up n j r [] e h = nothing-is e
   found-up n zero r (x ∷ rows) e h =
       let z : x ≡ r = cc in
       rw (z, meets-met q r .1 h) (inl (omega arith, refl))

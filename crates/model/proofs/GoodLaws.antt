@@ -14,7 +14,8 @@ use Rattle.model.specs.Parts.{Column, Row, Table}
 use Rattle.model.specs.Commands.{Action, Change, Condition, Given, New, delete, insert, select, update}
 use Rattle.model.specs.Conditions.{Brings, Every, Good, GoodDelete, GoodInsert, GoodSelect, GoodUpdate, NoneHolds, Some, Takes, TakesNot, There, Visible, refusalRows}
 use Rattle.model.specs.Claims.{AcceptedGood}
-use Rattle.model.proofs.Reflects.{nothing-there, surely}
+use Rattle.model.proofs.OptionLaws.{nothing-is}
+use Rattle.model.proofs.Reflects.{surely}
 use Rattle.model.proofs.ValueTests.{fits-reflects}
 use Rattle.model.proofs.CheckTests.{allows-reflects, berth-reflects, names-reflects, own-reflects, visible-reflects}
 use Rattle.model.proofs.TableLaws.{accepted-exactly}
@@ -58,7 +59,7 @@ module _ {A : Type 0} where
   nth-there (a ∷ l) (suc i) h = nth-there l i (λ k. h (omega arith))
 
   nth-below : (l : List A) (i : ℕ) (a : A) → nth i l ≡ some a → ¬ (length l ≤ i)
-  nth-below [] i a e h = nothing-there e
+  nth-below [] i a e h = nothing-is e
   nth-below (a ∷ l) zero x e h = omega arith
   nth-below (a ∷ l) (suc i) x e h = nth-below l i x e (omega arith)
 

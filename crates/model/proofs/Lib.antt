@@ -30,9 +30,6 @@ pub mod FormLaws
 pub mod TextLaws
 pub mod RecordLaws
 pub mod PlacingLaws
-pub mod ShapeLaws
-pub mod RangeLaws
-pub mod SheetLaws
 -- The rules are kept.
 pub mod RuleLaws
 pub mod SoundLaws
@@ -41,6 +38,10 @@ pub mod SoundKeeps
 pub mod LineSound
 pub mod RowCount
 pub mod KeepLaws
+-- Sheets.
+pub mod ShapeLaws
+pub mod RangeLaws
+pub mod SheetLaws
 -- Rooms, tapes, cards.
 pub mod RoomLaws
 pub mod TapeLaws

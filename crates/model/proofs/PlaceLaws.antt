@@ -6,8 +6,6 @@ use mathlib.Core.List.{List, [], _++_, _∷_}
 use mathlib.Core.Option.{Option, none, some}
 use Prim.Native.Nat.{suc, zero, ℕ}
 use Rattle.model.specs.Places.{Places, alter, andThen, at, emptied, gather, mapO, onPlaces, present, push, when}
-use Rattle.model.specs.Records.{inside}
-use Rattle.model.specs.Sheets.{B, C}
 
 -- ---- one after another
 pub when-then : {A B : Type 0} (a b : Bool) (x : A) (z : B) (g : A → Option B) → g x ≡ when b z → andThen (when a x) g ≡ when (a && b) z

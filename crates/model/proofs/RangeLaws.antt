@@ -8,6 +8,7 @@ use Prim.Native.Nat.{_<_, _≤_, suc, suc-le-suc, zero, ℕ}
 use native.Mathlib.Omega.{arith}
 use lib.Dec.{eqb}
 use lib.ListN.{length}
+use borrow.Author.Tests.{eqb-true}
 use Rattle.model.specs.declared.Class.{Class}
 use Rattle.model.specs.Places.{Places, allIn, at, sure}
 use Rattle.model.specs.Classes.{classSound, dominates}
@@ -16,11 +17,12 @@ use Rattle.model.specs.Parts.{Column, Directory, Row, Store, Table}
 use Rattle.model.specs.Rules.{columnOk, columnSound, directoryOk, directorySound, rowSound, ruled, sound, tableOk, tableSound, tableSounds}
 use Rattle.model.specs.Records.{TablePart, berth, column, directoryRecords, first, group, inside, later, numbered, records, rowRecord, single, table, tableRecords}
 use Rattle.model.specs.Conditions.{Every}
-use Rattle.model.proofs.Tests.{and-fst, and-snd, both}
+use Rattle.model.proofs.Tests.{and-fst, and-snd}
 use Rattle.model.proofs.Every.{EveryIn, every-append, every-filled, every-imp, every-map, every-split, every-true, every-unmap, facts, filled-every, in-both, in-imp, in-true, of-facts, true-every, true-in}
 use Rattle.model.proofs.TextLaws.{ClassIn, FieldIn}
 use Rattle.model.proofs.RecordLaws.{PartIn, RecordIn, TablePartIn}
-use Rattle.model.proofs.ShapeLaws.{Said, directory-shape, ruled-shape, said}
+use Rattle.model.proofs.RuleLaws.{TableRules, table-rules}
+use Rattle.model.proofs.ShapeLaws.{directory-shape, ruled-shape}
 
 -- ---- the records of a table, by kind of part
 module _ (P : TablePart → Type 0) (t : Table) where
@@ -104,7 +106,7 @@ module _ (w : ℕ) where
   abbrev ColumnIn : Column → Type 0
   ColumnIn k = (k .group ≤ 3) × FieldIn w (k .default)
 
-  columns-in : (t : Table) → Said t → allIn (columnSound w) (t .columns) ≡ true → EveryIn ColumnIn (t .columns)
+  columns-in : (t : Table) → TableRules t → allIn (columnSound w) (t .columns) ≡ true → EveryIn ColumnIn (t .columns)
   unfolding columnOk columnSound
   columns-in t s h = in-imp _ ColumnIn one (t .columns) (in-both _ _ (t .columns) (in-true (columnOk (t .groups)) (t .columns) (s .grouped)) (in-true (columnSound w) (t .columns) h))
     where
@@ -112,7 +114,7 @@ module _ (w : ℕ) where
       one k e =
           let p : Class → Bool = λ (g : Class). dominates g (k .default .class) in
           let i = at-below p (k .group) (t .groups) (and-fst (sure p (at (k .group) (t .groups))) (fits (k .kind) (k .default .value)) (e .0)) in
-          let g : length (t .groups) ≡ 4 = s .groups4 in
+          let g = eqb-true (length (t .groups)) 4 (s .groups4) in
           (omega arith, e .1)
 
   row-in : (r : Row) → rowSound w r ≡ true → TablePartIn w (rowRecord r)
@@ -125,12 +127,12 @@ module _ (w : ℕ) where
   table-in : (t : Table) → (tableOk t ≡ true) × (tableSound w t ≡ true) → Every (TablePartIn w) (tableRecords t)
   unfolding tableSound tableSounds
   table-in t h =
-      let s = said t (h .0) in
+      let s = table-rules t (h .0) in
       let f = facts (tableSounds w t) (h .1) in
       table-all (TablePartIn w) t (f .0, f .1 .0)
-      (singles-in (ClassIn w) 3 (t .berths) (s .berths4) (in-true (classSound w) (t .berths) (f .1 .1 .0)))
-      (singles-in (ClassIn w) 3 (t .groups) (s .groups4) (in-true (classSound w) (t .groups) (f .1 .1 .1 .0)))
-      (singles-in ColumnIn 7 (t .columns) (s .columns8) (columns-in t s (f .1 .1 .1 .1 .0)))
+      (singles-in (ClassIn w) 3 (t .berths) (eqb-true (length (t .berths)) 4 (s .berths4)) (in-true (classSound w) (t .berths) (f .1 .1 .0)))
+      (singles-in (ClassIn w) 3 (t .groups) (eqb-true (length (t .groups)) 4 (s .groups4)) (in-true (classSound w) (t .groups) (f .1 .1 .1 .0)))
+      (singles-in ColumnIn 7 (t .columns) (eqb-true (length (t .columns)) 8 (s .columns8)) (columns-in t s (f .1 .1 .1 .1 .0)))
       (every-imp _ _ row-in (t .rows) (every-true (rowSound w) (t .rows) (f .1 .1 .1 .1 .1 .0)))
 
   directory-in : (d : Directory) → (directoryOk d ≡ true) × (directorySound w d ≡ true) → Every (PartIn w) (directoryRecords d)

@@ -15,6 +15,7 @@ use Rattle.model.specs.Classes.{same}
 use Rattle.model.specs.Conditions.{Some, There, Twice}
 use Rattle.model.proofs.Tests.{and-fst, and-snd, both, not-both, not-true, or-left, or-right}
 use Rattle.model.proofs.OrderLaws.{same-eq, same-refl}
+use Rattle.model.proofs.OptionLaws.{nothing-is}
 
 -- the test b passes just where P holds
 abbrev pub Reflects : Bool → Type 0 → Type 0
@@ -23,10 +24,6 @@ Reflects b P = (b ≡ true) ↔ P
 -- for what `cc` draws from a path between different constructors
 pub clash {ℓ} : {X : Type ℓ} → _≡_ {A = ℕ} 0 1 → X
 clash e = absurd (omega arith)
-
--- what is called absent is not there
-pub nothing-there {ℓ} : {X : Type ℓ} {A : Type 0} {a : A} → none ≡ some a → X
-nothing-there e = clash cc
 
 module _ {b : Bool} {P : Type 0} (r : Reflects b P) where
   -- in other words
@@ -81,7 +78,7 @@ module _ {A : Type 0} {p : A → Bool} {P : A → Type 0} (r : (a : A) → Refle
   any-reflects (a ∷ l) = or-reflects (r a) (any-reflects l)
 
   pub sure-reflects : (o : Option A) → Reflects (sure p o) (There P o)
-  sure-reflects none = never (λ h. nothing-there (h .1))
+  sure-reflects none = never (λ h. nothing-is (h .1))
   sure-reflects (some a) = reworded (r a) (λ h. (a, refl, h)) (λ h. let q : h .0 ≡ a = cc (h .1) in subst P q (h .2))
 
 pub twice-reflects : {A : Type 0} {p : A → A → Bool} {R : A → A → Type 0} → ((a b : A) → Reflects (p a b) (R a b))
@@ -90,7 +87,7 @@ twice-reflects r [] = never (λ h. h)
 twice-reflects r (a ∷ l) = or-reflects (any-reflects (r a) l) (twice-reflects r l)
 
 pub present-reflects : {A : Type 0} (o : Option A) → Reflects (present o) (There (λ (a : A). Unit {0}) o)
-present-reflects none = never (λ h. nothing-there (h .1))
+present-reflects none = never (λ h. nothing-is (h .1))
 present-reflects (some a) = always (a, refl, tt)
 
 -- ---- numbers and classes

@@ -3,7 +3,7 @@
 use mathlib.Core.Path.{_≡_, ap, refl, sym}
 use mathlib.Core.Logic.{_↔_, inl, inr, ⊎-elim}
 use mathlib.Core.Bool.{Bool, cond, false, not, true}
-use mathlib.Core.List.{[], _∷_}
+use mathlib.Core.List.{List, [], _∷_}
 use mathlib.Core.Option.{Option, none, some}
 use Prim.Native.Nat.{_<_, _≤_, suc, ℕ}
 use native.Mathlib.Omega.{arith}
@@ -11,26 +11,32 @@ use lib.Dec.{leb, ltb}
 use lib.ListN.{length}
 use borrow.Author.Tests.{leb-false, leb-true, ltb-false}
 use Rattle.model.specs.declared.Class.{Class}
+use Rattle.model.specs.declared.Field.{Field}
 use Rattle.model.specs.declared.Reply.{Reply}
 use Rattle.model.specs.declared.Reply.the-variants.{BadSheet, Done, RoomShort, RuleBroken, SheetLong}
-use Rattle.model.specs.Places.{at}
-use Rattle.model.specs.Parts.{Store, Table, tableAt}
-use Rattle.model.specs.Rules.{rules}
+use Rattle.model.specs.declared.Value.the-variants.{Hidden}
+use Rattle.model.specs.Places.{all, andThen, at}
+use Rattle.model.specs.Values.{isHidden}
+use Rattle.model.specs.Parts.{Directory, Row, Store, Table, tableAt}
+use Rattle.model.specs.Rules.{directoryPlain, fieldPlain, plain, rowPlain, rules, tablePlain}
 use Rattle.model.specs.View.{view}
 use Rattle.model.specs.Numbers.{Bytes}
-use Rattle.model.specs.Sheets.{Heading, judged, mayStand, readSheet, reading, refused, sheetText, taken}
+use Rattle.model.specs.Sheets.{Heading, SHEET, judged, mayStand, readSheet, reading, refused, sheetText, shows, taken}
 use Rattle.model.specs.Rooms.{putInto, unwritten, writing, written}
 use Rattle.model.specs.Commands.{Action, Line, command, delete, insert, nobodys, readLine, select, unformed, update}
 use Rattle.model.specs.Answers.{answer, answerText}
 use Rattle.model.specs.Checks.{checks, firstOf, tableChecks}
 use Rattle.model.specs.Verdicts.{accept, answerBytes, decided, judge, judgement, lineVerdict, outcome, says, verdict, verdictOn}
-use Rattle.model.specs.Conditions.{First, Rows, There, readingRows}
-use Rattle.model.specs.Cards.{stands}
-use Rattle.model.specs.Claims.{AnswerRoom, ReadingExactly, SheetRoom, WritingExactly}
-use Rattle.model.proofs.Tests.{not-both}
-use Rattle.model.proofs.Reflects.{clash, ltb-reflects, not-reflects, nothing-there}
+use Rattle.model.specs.Conditions.{Every, First, Rows, There, readingRows}
+use Rattle.model.specs.Claims.{AnswerRoom, NothingHidden, ReadingExactly, SheetRoom, WritingExactly}
+use Rattle.model.proofs.Tests.{and-fst, and-snd, not-both, not-true}
+use Rattle.model.proofs.OptionLaws.{nothing-is}
+use Rattle.model.proofs.AllLaws.{allIn-at}
+use Rattle.model.proofs.Reflects.{clash, ltb-reflects, not-reflects}
+use Rattle.model.proofs.ValueTests.{hidden-reflects}
 use Rattle.model.proofs.Clear.{accept-accepts, checks-refuse, clear}
 use Rattle.model.proofs.TableLaws.{row-first, row-last}
+use Rattle.model.proofs.SheetLaws.{round-trip}
 
 -- ---- lengths
 -- a text that fits leaves the room as long as it was
@@ -111,8 +117,8 @@ reading-exactly w bs r = long (leb (length bs) 65536) refl
     late : (o : Option (Heading × Store)) → (judged w o ≡ refused r)
         ↔ First r ((BadSheet, ¬ There (λ (x : Heading × Store). Unit {0}) o) ∷ (RuleBroken, There (λ (x : Heading × Store). ¬ (mayStand w (x .0) (x .1) ≡ true)) o) ∷ [])
     late none = (
-      λ e. inl (sym (refused-same e), λ t. nothing-there (t .1)),
-      ⊎-elim (λ k. ap refused (sym (k .0))) (λ k. absurd (k .0 (λ t. nothing-there (t .1)))),
+      λ e. inl (sym (refused-same e), λ t. nothing-is (t .1)),
+      ⊎-elim (λ k. ap refused (sym (k .0))) (λ k. absurd (k .0 (λ t. nothing-is (t .1)))),
     )
     late (some x) = stands (mayStand w (x .0) (x .1)) refl
       where
@@ -144,3 +150,26 @@ reading-exactly w bs r = long (leb (length bs) 65536) refl
           λ e. inl (sym (refused-same e), omega arith),
           ⊎-elim (λ k. ap refused (sym (k .0))) (λ k. absurd (k .0 (omega arith))),
         )
+
+-- ---- what SHEET adds to the rules
+all-every : {A : Type 0} (p : A → Bool) (P : A → Type 0) → ((a : A) → p a ≡ true → P a) → (l : List A) → all p l ≡ true → Every P l
+all-every p P each [] e = tt
+all-every p P each (a ∷ l) e = (each a (and-fst (p a) (all p l) e), all-every p P each l (and-snd (p a) (all p l) e))
+
+row-plain : (r : Row) → rowPlain r ≡ true → (j : ℕ) (f : Field) → at j (r .fields) ≡ some f → ¬ (f .value ≡ Hidden)
+unfolding rowPlain fieldPlain
+row-plain r e j f q h = not-both (isHidden (f .value)) (hidden-reflects (f .value) .1 h) (not-true (isHidden (f .value)) (allIn-at fieldPlain j (r .fields) e f q))
+
+store-plain : (s : Store) → plain s ≡ true → (d n : ℕ) (t : Table) → tableAt d n s ≡ some t → tablePlain t ≡ true
+unfolding plain directoryPlain tableAt
+store-plain s e d n t q = go (at d s) refl q
+  where
+    go : (o : Option Directory) → at d s ≡ o → andThen o (λ (x : Directory). at n (x .tables)) ≡ some t → tablePlain t ≡ true
+    go none p q = nothing-is q
+    go (some x) p q = allIn-at tablePlain n (x .tables) (allIn-at directoryPlain d s e x p) t q
+
+pub nothing-hidden : NothingHidden
+unfolding tablePlain mayStand shows
+nothing-hidden w bs s e d n t q =
+    let stands = round-trip w bs SHEET s .0 e .0 in
+    all-every rowPlain _ row-plain (t .rows) (store-plain s (and-snd (rules w s) (plain s) stands) d n t q)

@@ -16,7 +16,6 @@ use Rattle.model.specs.Classes.{dominates, same}
 use Rattle.model.specs.Values.{hide}
 use Rattle.model.specs.Parts.{Column, Row}
 use Rattle.model.specs.View.{cut, viewField, viewFields, viewRow}
-use Rattle.model.specs.Records.{row}
 use Rattle.model.specs.Commands.{Action, Change, New, delete, insert, newClass, newField, newValue, select, update}
 use Rattle.model.specs.Checks.{own}
 use Rattle.model.specs.Effects.{amend, amendRow, edit, entryFor, fill, given, lets, newRow, newRows, put, renew, renewAll, strike, touch}

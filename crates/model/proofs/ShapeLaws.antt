@@ -9,34 +9,15 @@ use lib.ListN.{length}
 use borrow.Author.Tests.{eqb-true}
 use Rattle.model.specs.declared.Class.{Class}
 use Rattle.model.specs.declared.Field.{Field}
-use Rattle.model.specs.Places.{Places, all, allIn, any, filled, sure}
+use Rattle.model.specs.Places.{Places, allIn, any, filled, sure}
 use Rattle.model.specs.Classes.{same}
 use Rattle.model.specs.Parts.{Column, Directory, Row, Store, Table}
-use Rattle.model.specs.Rules.{columnOk, directoryOk, fieldOk, fieldsOk, rowOk, ruled, tableOk, tableTests}
+use Rattle.model.specs.Rules.{directoryOk, fieldOk, fieldsOk, rowOk, ruled, tableOk}
 use Rattle.model.specs.Records.{spread}
 use Rattle.model.proofs.Tests.{and-fst, and-snd}
-use Rattle.model.proofs.Every.{every-imp, every-true, facts, in-imp, in-true}
+use Rattle.model.proofs.Every.{every-imp, every-true, in-imp, in-true}
 use Rattle.model.proofs.PlacingLaws.{DirectoryShape, Shape, TableShape}
-
--- ---- what the rules of a table say of its form
-pub record Said (t : Table) : Type 0 where
-  pub grouped : allIn (columnOk (t .groups)) (t .columns) ≡ true
-  pub rowed : all (rowOk (t .berths) (t .columns)) (t .rows) ≡ true
-  pub berths4 : length (t .berths) ≡ 4
-  pub groups4 : length (t .groups) ≡ 4
-  pub columns8 : length (t .columns) ≡ 8
-
-pub said : (t : Table) → tableOk t ≡ true → Said t
-unfolding tableOk tableTests
-said t e =
-    let f = facts (tableTests t) e in
-    record {
-      grouped = f .1 .1 .1 .0;
-      rowed = f .1 .1 .1 .1 .0;
-      berths4 = eqb-true (length (t .berths)) 4 (f .1 .1 .1 .1 .1 .1 .0);
-      groups4 = eqb-true (length (t .groups)) 4 (f .1 .1 .1 .1 .1 .1 .1 .0);
-      columns8 = eqb-true (length (t .columns)) 8 (f .1 .1 .1 .1 .1 .1 .1 .1 .0);
-    }
+use Rattle.model.proofs.RuleLaws.{table-rules}
 
 -- ---- shape
 fields-spread : (ks : Places Column) (fs : Places Field) → fieldsOk ks fs ≡ true → spread ks (filled fs) ≡ some fs
@@ -55,12 +36,12 @@ row-spread bs ks r e = fields-spread ks (r .fields) (and-snd (any (sure (same (r
 
 table-shape : (t : Table) → tableOk t ≡ true → TableShape t
 table-shape t e =
-    let s = said t e in
+    let f = table-rules t e in
     record {
-      berths4 = s .berths4;
-      groups4 = s .groups4;
-      columns8 = s .columns8;
-      rows-fit = every-imp _ _ (row-spread (t .berths) (t .columns)) (t .rows) (every-true (rowOk (t .berths) (t .columns)) (t .rows) (s .rowed));
+      berths4 = eqb-true (length (t .berths)) 4 (f .berths4);
+      groups4 = eqb-true (length (t .groups)) 4 (f .groups4);
+      columns8 = eqb-true (length (t .columns)) 8 (f .columns8);
+      rows-fit = every-imp _ _ (row-spread (t .berths) (t .columns)) (t .rows) (every-true (rowOk (t .berths) (t .columns)) (t .rows) (f .filled));
     }
 
 pub directory-shape : (d : Directory) → directoryOk d ≡ true → DirectoryShape d

@@ -1,6 +1,6 @@
 -- The theorems: a proof of each claim of specs/Claims.antt.
 -- Assumes nothing.
-use Rattle.model.specs.Claims.{Dominance, Reflexive, Transitive, Antisymmetric, CommonPart, ViewKeeps, ViewTwice, ViewAgain, CommandKeeps, RefusalLeaves, AnswerRoom, SheetRoom, GivenExactly, Accepting, AcceptedExactly, AcceptedGood, SameValue, ChangesThere, ChangesNowhereElse, DirectoriesStay, InsertDoes, DeleteDoes, UpdateDoes, SelectDoes, Demand3, RoundTrip, ReadingExactly, WritingExactly, WrittenReads, Cards}
+use Rattle.model.specs.Claims.{Dominance, Reflexive, Transitive, Antisymmetric, CommonPart, ViewKeeps, ViewTwice, ViewAgain, CommandKeeps, RefusalLeaves, AnswerRoom, SheetRoom, GivenExactly, Accepting, AcceptedExactly, AcceptedGood, SameValue, ChangesThere, ChangesNowhereElse, DirectoriesStay, InsertDoes, DeleteDoes, UpdateDoes, SelectDoes, Demand3, RoundTrip, ReadingExactly, WritingExactly, NothingHidden, WrittenReads, Cards}
 use Rattle.model.proofs.CardLaws
 use Rattle.model.proofs.DeedLaws
 use Rattle.model.proofs.Found
@@ -45,6 +45,7 @@ pub record Theorems : Type 0 where
   pub round-trip : RoundTrip
   pub reading-exactly : ReadingExactly
   pub writing-exactly : WritingExactly
+  pub nothing-hidden : NothingHidden
   pub written-reads : WrittenReads
   pub cards : Cards
 
@@ -79,6 +80,7 @@ theorems =
       round-trip = SheetLaws.round-trip;
       reading-exactly = RoomLaws.reading-exactly;
       writing-exactly = RoomLaws.writing-exactly;
+      nothing-hidden = RoomLaws.nothing-hidden;
       written-reads = SheetLaws.written-reads;
       cards = CardLaws.cards;
     }

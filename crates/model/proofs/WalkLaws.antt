@@ -8,7 +8,7 @@ use Prim.Native.Nat.{suc, zero, ℕ}
 use native.Mathlib.Omega.{arith}
 use lib.ListN.{length, length-append, take}
 use Rattle.model.specs.declared.Class.{Class}
-use Rattle.model.specs.Places.{all, gather, push, tick, when}
+use Rattle.model.specs.Places.{gather, push, tick, when}
 use Rattle.model.specs.Classes.{dominates}
 use Rattle.model.specs.Parts.{Row}
 use Rattle.model.specs.Answers.{Shown, numberedFrom}

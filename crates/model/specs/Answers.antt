@@ -4,7 +4,6 @@ use mathlib.Core.Bool.{Bool, true, false, _&&_, not}
 use mathlib.Core.List.{List, [], _∷_}
 use mathlib.Core.Option.{Option, none, some}
 use Prim.Native.Nat.{ℕ, zero, suc}
-use lib.ListN.{length}
 use Rattle.model.specs.declared.Field.{Field}
 use Rattle.model.specs.Places.{when, at, sure, gather, filled}
 use Rattle.model.specs.Values.{isHidden, sameValue}

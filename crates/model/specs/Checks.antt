@@ -12,7 +12,7 @@ use Rattle.model.specs.declared.Kind.{Kind}
 use Rattle.model.specs.declared.Field.{Field}
 use Rattle.model.specs.declared.Reply.{Reply}
 use Rattle.model.specs.declared.Reply.the-variants.{TableAbove, NamedTwice, NoColumn, NoRow, NotNamed, Misfit, NoBerth, BerthFull, NotYours, Uncovers, RoomShort}
-use Rattle.model.specs.Places.{Places, present, sure, andThen, at, nth, any, twice}
+use Rattle.model.specs.Places.{Places, present, sure, at, nth, any, twice}
 use Rattle.model.specs.Classes.{dominates, same}
 use Rattle.model.specs.Values.{fits, isHidden}
 use Rattle.model.specs.Parts.{Row, Column, Table}

@@ -8,9 +8,11 @@ use mathlib.Core.Option.{Option, some}
 use Prim.Native.Nat.{_≤_, ℕ}
 use lib.ListN.{length, take}
 use Rattle.model.specs.declared.Class.{Class}
+use Rattle.model.specs.declared.Field.{Field}
 use Rattle.model.specs.declared.Reply.{Reply}
 use Rattle.model.specs.declared.Reply.the-variants.{Done, LeftOut}
 use Rattle.model.specs.declared.Value.{Value}
+use Rattle.model.specs.declared.Value.the-variants.{Hidden}
 use Rattle.model.specs.Places.{at, mapO, nth}
 use Rattle.model.specs.Classes.{common, dominates}
 use Rattle.model.specs.Values.{sameValue, valueSound}
@@ -19,14 +21,14 @@ use Rattle.model.specs.Rules.{rules}
 use Rattle.model.specs.View.{openTable, view}
 use Rattle.model.specs.Replies.{accepts}
 use Rattle.model.specs.Numbers.{Bytes}
-use Rattle.model.specs.Sheets.{Heading, mayStand, reading, refused, sheetText, taken}
+use Rattle.model.specs.Sheets.{Heading, SHEET, mayStand, reading, refused, sheetText, taken}
 use Rattle.model.specs.Rooms.{writing}
 use Rattle.model.specs.Commands.{Action, Change, Command, Condition, Given, Line, delete, insert, select, update}
 use Rattle.model.specs.Answers.{Shown, answer}
 use Rattle.model.specs.Effects.{changeTable}
 use Rattle.model.specs.Verdicts.{Offer, changed, judge, judgement, outcome, verdict}
 use Rattle.model.specs.Tapes.{final, known, knownOf, log}
-use Rattle.model.specs.Conditions.{Above, First, Good, NoneHolds, Some, Visible, allRows, readingRows, refusalRows, writingRows}
+use Rattle.model.specs.Conditions.{Above, Every, First, Good, NoneHolds, Some, Visible, allRows, readingRows, refusalRows, writingRows}
 use Rattle.model.specs.Plainly.{Met, amendNamed, classesOf, plainly, strikeNamed}
 use Rattle.model.specs.Cards.{got, want}
 
@@ -175,6 +177,12 @@ ReadingExactly = (w : ℕ) (bs : Bytes) (r : Reply) → (reading w bs ≡ refuse
 
 abbrev pub WritingExactly : Type 0
 WritingExactly = (w : ℕ) (h : Heading) (s : Store) (room : Bytes) (r : Reply) → (writing w h s room .reply ≡ r) ↔ First r (writingRows w h s room)
+
+-- a sheet that is taken under SHEET hides nothing
+abbrev pub NothingHidden : Type 0
+NothingHidden =
+    (w : ℕ) (bs : Bytes) (s : Store) → reading w bs ≡ taken SHEET s → (d n : ℕ) (t : Table) → tableAt d n s ≡ some t
+    → Every (λ (r : Row). (j : ℕ) (f : Field) → at j (r .fields) ≡ some f → ¬ (f .value ≡ Hidden)) (t .rows)
 
 -- a store that is written into a room is read back from it
 abbrev pub WrittenReads : Type 0

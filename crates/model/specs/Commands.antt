@@ -1,6 +1,6 @@
 -- Commands, and the lines that hold them. 01, "Sheets and tapes", the paragraph "A command".
 -- Assumes nothing.
-use mathlib.Core.Bool.{Bool, true, false, cond, not}
+use mathlib.Core.Bool.{Bool, cond, not}
 use mathlib.Core.List.{List, [], _∷_}
 use mathlib.Core.Option.{Option, none, some}
 use Prim.Native.Nat.{ℕ}

@@ -1,20 +1,16 @@
 -- The front panel's one function. 01, "Sheets and tapes", last paragraph.
 -- Assumes nothing.
-use mathlib.Core.Bool.{Bool, true, false, cond}
-use mathlib.Core.Option.{Option, none, some}
+use mathlib.Core.Bool.{cond}
 use Prim.Native.Nat.{ℕ, _+_, _*_}
 use lib.Dec.{leb, ltb}
 use lib.ListN.{length}
 use Rattle.model.specs.declared.Reply.{Reply}
 use Rattle.model.specs.declared.Reply.the-variants.{RoomShort, SheetLong}
-use Rattle.model.specs.Parts.{Store}
 use Rattle.model.specs.Replies.{number, accepts}
 use Rattle.model.specs.Numbers.{Bytes}
 use Rattle.model.specs.Sheets.{SHEET, Reading, refused, taken, sheetText, readSheet, judged}
 use Rattle.model.specs.Rooms.{written}
-use Rattle.model.specs.Commands.{readLine}
-use Rattle.model.specs.Answers.{answerText}
-use Rattle.model.specs.Verdicts.{Offer, Outcome, outcome}
+use Rattle.model.specs.Verdicts.{Outcome, outcome}
 use Rattle.model.specs.Bench.{sheetOnly}
 
 -- the number that is handed back, and both rooms at exit

@@ -1,6 +1,6 @@
 -- What a command is answered, and the store after it. 01, "Commands" and "Reply numbers".
 -- Assumes nothing.
-use mathlib.Core.Bool.{Bool, cond}
+use mathlib.Core.Bool.{cond}
 use mathlib.Core.List.{List, []}
 use mathlib.Core.Option.{Option, none, some}
 use Prim.Native.Nat.{ℕ}

@@ -1,7 +1,7 @@
 -- The view at a clearance. 01, the section of that name, sentence by sentence.
 -- Assumes nothing.
-use mathlib.Core.Bool.{Bool, cond}
-use mathlib.Core.List.{List, [], _∷_}
+use mathlib.Core.Bool.{cond}
+use mathlib.Core.List.{[], _∷_}
 use mathlib.Core.Option.{Option, none, some}
 use Rattle.model.specs.declared.Class.{Class}
 use Rattle.model.specs.declared.Field.{Field}
