@@ -17,7 +17,7 @@ use Rattle.model.specs.Parts.{Column, Directory, Row, Store, Table}
 use Rattle.model.specs.Rules.{columnOk, columnSound, directoryOk, directorySound, rowSound, ruled, sound, tableOk, tableSound, tableSounds}
 use Rattle.model.specs.Records.{TablePart, berth, column, directoryRecords, first, group, inside, later, numbered, records, rowRecord, single, table, tableRecords}
 use Rattle.model.specs.Conditions.{Every}
-use Rattle.model.proofs.Tests.{and-fst, and-snd}
+use Rattle.model.proofs.Tests.{and-fst, and-snd, both}
 use Rattle.model.proofs.Every.{EveryIn, every-append, every-filled, every-imp, every-map, every-split, every-true, every-unmap, facts, filled-every, in-both, in-imp, in-true, of-facts, true-every, true-in}
 use Rattle.model.proofs.TextLaws.{ClassIn, FieldIn}
 use Rattle.model.proofs.RecordLaws.{PartIn, RecordIn, TablePartIn}
