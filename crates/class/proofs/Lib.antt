@@ -1,0 +1,3 @@
+-- The laws of this crate.
+pub mod MaskLaws
+pub mod PartLaws
