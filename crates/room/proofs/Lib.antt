@@ -1,0 +1,4 @@
+-- Laws by subject.
+pub mod RoomLaws
+pub mod EachLaws
+pub mod DigitLaws

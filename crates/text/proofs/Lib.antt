@@ -1,0 +1,4 @@
+-- Laws by subject.
+pub mod ReadLaws
+pub mod FieldLaws
+pub mod WordLaws

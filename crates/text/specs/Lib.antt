@@ -1,0 +1,2 @@
+pub mod Nums
+pub mod Fields
