@@ -1,0 +1,3 @@
+-- Definitions on lists that contracts cite.
+pub mod Folds
+pub mod Pad
