@@ -1,3 +1,4 @@
 -- The laws of this crate.
 pub mod MaskLaws
 pub mod PartLaws
+pub mod TextLaws

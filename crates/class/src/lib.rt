@@ -1,7 +1,15 @@
-// Classes: their order, and their common part.
+// Classes: their order, their common part, and their text.
 ghost use mathlib.Core.Path.{_≡_};
 ghost use Rattle.model.specs.Classes as order;
 use model::Class;
+
+pub mod texts;
+
+// A class that was read, or none.
+pub enum ReadClass {
+    Good(Class),
+    Bad,
+}
 
 // Whether `a` dominates `b`: `b` has no higher level, and no mark that `a` has not.
 pub fn dominates(a: Class, b: Class) -> bool

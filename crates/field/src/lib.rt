@@ -1,4 +1,4 @@
-// Values and fields: kinds, rates by their bits, sameness, hiding, and what is ours.
+// Values and fields: kinds, rates by their bits, sameness, hiding, what is ours, and their text.
 ghost use mathlib.Core.Path.{_≡_};
 ghost use mathlib.Core.Bool.{not, _&&_};
 ghost use lib.Ieee.{binary32, isNan, nanBits, toBits};
@@ -9,6 +9,20 @@ use model::Class;
 use model::Field;
 use model::Kind;
 use model::Value;
+
+pub mod texts;
+
+// A value that was read, or none.
+pub enum ReadValue {
+    Good(Value),
+    Bad,
+}
+
+// A kind that was read, or none.
+pub enum ReadKind {
+    Good(Kind),
+    Bad,
+}
 
 // The weight of a rate's sign.
 const SIGN: u32 = 0x80000000;
