@@ -3,27 +3,41 @@
 use mathlib.Core.Path.{_∙_, _≡_, ap, refl, sym}
 use mathlib.Core.Bool.{Bool, _&&_, false, true}
 use mathlib.Core.List.{List, [], _++_, _∷_, map}
-use Prim.Native.Nat.{suc, ℕ}
-use lib.ListN.{getD, length}
+use Prim.Native.Nat.{ℕ}
+use lib.ListN.{length}
 use Rattle.model.specs.Places.{all, conj}
 use Rattle.lists.proofs.Loops.{elements, reads}
 
-abbrev pub chain : Bool → List Bool → Bool
-chain b [] = b
-chain b (x ∷ xs) = chain (b && x) xs
+abbrev pub chainFrom : Bool → List Bool → Bool
+chainFrom b [] = b
+chainFrom b (x ∷ xs) = chainFrom (b && x) xs
 
-pub chain-conj : (b : Bool) (xs : List Bool) → chain b xs ≡ conj (b ∷ xs)
-chain-conj true [] = refl
-chain-conj false [] = refl
-chain-conj true (x ∷ xs) = chain-conj x xs
-chain-conj false (x ∷ xs) = chain-conj false xs
+abbrev pub chain : List Bool → Bool
+chain [] = true
+chain (b ∷ xs) = chainFrom b xs
 
--- tests that always pass may be left out at the end
-pub chain-sure : (b : Bool) (xs ys : List Bool) → conj ys ≡ true → chain b xs ≡ conj (b ∷ (xs ++ ys))
-chain-sure true [] ys e = sym e
-chain-sure false [] ys e = refl
-chain-sure true (x ∷ xs) ys e = chain-sure x xs ys e
-chain-sure false (x ∷ xs) ys e = chain-sure false xs ys e
+chain-from : (b : Bool) (xs : List Bool) → chainFrom b xs ≡ (b && conj xs)
+chain-from true [] = refl
+chain-from false [] = refl
+chain-from true (x ∷ xs) = chain-from x xs
+chain-from false (x ∷ xs) = chain-from false xs
+
+pub chain-conj : (xs : List Bool) → chain xs ≡ conj xs
+chain-conj [] = refl
+chain-conj (b ∷ xs) = chain-from b xs
+
+-- a test that always passes may be left out, the last of two or at the end of a list
+pub and-sure : (a b : Bool) → b ≡ true → a ≡ (a && b)
+and-sure true b e = sym e
+and-sure false b e = refl
+
+conj-append : (xs ys : List Bool) → (conj xs && conj ys) ≡ conj (xs ++ ys)
+conj-append [] ys = refl
+conj-append (true ∷ xs) ys = conj-append xs ys
+conj-append (false ∷ xs) ys = refl
+
+pub chain-sure : (xs ys : List Bool) → conj ys ≡ true → chain xs ≡ conj (xs ++ ys)
+chain-sure xs ys e = chain-conj xs ∙ and-sure (conj xs) (conj ys) e ∙ conj-append xs ys
 
 -- all of an array, an element after another
 module _ {A : Type 0} (p : A → Bool) where
@@ -31,5 +45,5 @@ module _ {A : Type 0} (p : A → Bool) where
   conj-all [] = refl
   conj-all (x ∷ l) = ap (λ (b : Bool). p x && b) (conj-all l)
 
-  pub chain-all : (l : List A) (d : A) (n : ℕ) → length l ≡ suc n → chain (p (getD l 0 d)) (map p (reads l d 1 n)) ≡ all p l
-  chain-all l d n h = chain-conj (p (getD l 0 d)) (map p (reads l d 1 n)) ∙ conj-all (reads l d 0 (suc n)) ∙ ap (all p) (elements l d (suc n) h)
+  pub chain-all : (l : List A) (d : A) (n : ℕ) → length l ≡ n → chain (map p (reads l d 0 n)) ≡ all p l
+  chain-all l d n h = chain-conj (map p (reads l d 0 n)) ∙ conj-all (reads l d 0 n) ∙ ap (all p) (elements l d n h)

@@ -34,33 +34,38 @@ columnAway k = not (k .there)
 abbrev pub tableAway : Table → Bool
 tableAway t = not (t .there)
 
--- ---- berths, groups, columns
+-- ---- berths and groups: of a class of ours, and of the lowest where absent
 unfoldable pub berthTidy : Berth → Bool
 berthTidy b = classSound 8 (b .class) && (b .there || same (b .class) bottom)
 
 unfoldable pub groupTidy : Group → Bool
 groupTidy g = classSound 8 (g .exist) && (g .there || same (g .exist) bottom)
 
+-- ---- columns: with a default of ours, and the constant where absent
+-- a field that is the constant
 unfoldable pub fieldEmpty : Field → Bool
 fieldEmpty f = same (f .class) bottom && sameValue (f .value) Blank
 
+-- what the constant holds, but for its mark
 unfoldable pub columnEmpty : Column → Bool
 columnEmpty k = (eqb (k .group) 0 && eqb (kindLetter (k .kind)) (code "N")) && fieldEmpty (k .default)
 
 unfoldable pub columnTidy : Column → Bool
 columnTidy k = fieldSound 8 (k .default) && (k .there || columnEmpty k)
 
--- ---- rows: a field for each column
+-- ---- rows: of a class of ours, with a field for each column, of ours too and the constant where the column is absent
 unfoldable pub fieldTidy : Column → Field → Bool
 fieldTidy k f = fieldSound 8 f && (k .there || fieldEmpty f)
 
 unfoldable pub rowTidy : List Column → Row → Bool
 rowTidy ks r = classSound 8 (r .exist) && allPairs fieldTidy ks (r .fields)
 
+-- a row that is the constant
 unfoldable pub rowEmpty : Row → Bool
 rowEmpty r = (same (r .exist) bottom && all fieldEmpty (r .fields)) && eqb (length (r .fields)) 8
 
--- ---- tables
+-- ---- tables: with tidy parts, the constant past the count, and the constant where absent
+-- what the constant holds, of a table with tidy parts
 unfoldable pub tableEmpty : Table → List Bool
 tableEmpty t =
     same (t .class) bottom
@@ -71,6 +76,7 @@ tableEmpty t =
     ∷ eqb (t .count) 0
     ∷ []
 
+-- the lengths of its arrays
 unfoldable pub tableLengths : Table → List Bool
 tableLengths t = eqb (length (t .berths)) 4 ∷ eqb (length (t .groups)) 4 ∷ eqb (length (t .columns)) 8 ∷ eqb (length (t .rows)) 32 ∷ []
 
@@ -90,7 +96,7 @@ tableParts t =
 unfoldable pub tableTidy : Table → Bool
 tableTidy t = conj (tableParts t) && conj (tableLengths t)
 
--- ---- directories, the store
+-- ---- directories, likewise, and the store
 unfoldable pub directoryEmpty : Directory → List Bool
 directoryEmpty d = same (d .exist) bottom ∷ same (d .class) bottom ∷ all tableAway (d .tables) ∷ []
 

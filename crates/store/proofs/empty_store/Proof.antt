@@ -1,6 +1,8 @@
+-- `store::empty_store` is four times the constant, the packing of nothing.
+-- Assumes nothing.
 use lib.ListN.{replicate}
-use Rattle.store.specs.Packed.{packed, packedDirectory}
 use borrow.Author.Needs.{needs}
+use Rattle.store.specs.Packed.{packed, packedDirectory}
 use Rattle.store.proofs.empty_store.Statement.{statement}
 use Rattle.store.proofs.empty_store.Tie as tie
 

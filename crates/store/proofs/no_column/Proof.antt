@@ -1,6 +1,8 @@
+-- `store::no_column` is the constant.
+-- Assumes nothing.
 use mathlib.Core.Bool.{false}
-use Rattle.model.specs.declared.Kind.the-variants.{Counts}
 use borrow.Author.Needs.{needs}
+use Rattle.model.specs.declared.Kind.the-variants.{Counts}
 use Rattle.store.proofs.no_column.Statement.{statement}
 use Rattle.store.proofs.no_column.Tie as tie
 

@@ -1,6 +1,8 @@
+-- `store::no_row` is the constant.
+-- Assumes nothing.
 use lib.ListN.{replicate}
-use Rattle.store.specs.Packed.{bottom}
 use borrow.Author.Needs.{needs}
+use Rattle.store.specs.Packed.{bottom}
 use Rattle.store.proofs.no_row.Statement.{statement}
 use Rattle.store.proofs.no_row.Tie as tie
 

@@ -1,7 +1,9 @@
+-- `store::no_table` is the constant.
+-- Assumes nothing.
 use mathlib.Core.Bool.{false}
 use lib.ListN.{replicate}
-use Rattle.store.specs.Packed.{bottom}
 use borrow.Author.Needs.{needs}
+use Rattle.store.specs.Packed.{bottom}
 use Rattle.store.proofs.no_table.Statement.{statement}
 use Rattle.store.proofs.no_table.Tie as tie
 
