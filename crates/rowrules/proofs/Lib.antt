@@ -1,0 +1,3 @@
+-- Parts that may be absent, and rows.
+pub mod PartLaws
+pub mod RowLaws

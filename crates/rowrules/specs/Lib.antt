@@ -1,0 +1,2 @@
+-- The rules of rows and of their fields.
+pub mod Kept
