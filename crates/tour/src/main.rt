@@ -15,8 +15,11 @@ use store::Group;
 use store::Row;
 use store::Store;
 use store::Table;
-use store::empty_store;
+use store::no_berth;
+use store::no_column;
 use store::no_directory;
+use store::no_field;
+use store::no_group;
 use store::no_row;
 use store::no_table;
 use store::small;
@@ -64,47 +67,74 @@ fn column(group: u8, kind: Kind, k: Class) -> Column {
     }
 }
 
+// ---- around one table
+fn single(exist: Class, class: Class, t: Table) -> Directory {
+    let e = no_table();
+    Directory {
+        there: true,
+        exist,
+        class,
+        tables: [t, e],
+    }
+}
+
+fn alone(d: Directory) -> Store {
+    let e = no_directory();
+    Store { dirs: [d, e, e, e] }
+}
+
 // ---- the document's example
 fn example_row(k: Class, n: u32) -> Row {
-    let mut r = no_row();
-    r.exist = k;
-    r.fields[0] = Field {
+    let e = no_field();
+    let f = Field {
         class: k,
         value: Value::Count(n),
     };
-    r.fields[1] = Field {
+    let g = Field {
         class: class(2, 3),
         value: Value::Blank,
     };
-    r
+    Row {
+        exist: k,
+        fields: [f, g, e, e, e, e, e, e],
+    }
 }
 
-fn example() -> Store {
+fn example_table(rows: [Row; 32], count: usize) -> Table {
     let low = class(0, 0);
     let high = class(2, 3);
-    let first = class(1, 1);
-    let second = class(1, 2);
-    let mut t = no_table();
-    t.there = true;
-    t.class = low;
-    t.max = class(3, 3);
-    t.berths[0] = berth(first);
-    t.berths[1] = berth(second);
-    t.groups[0] = group(low);
-    t.groups[1] = group(high);
-    t.columns[0] = column(0, Kind::Counts, low);
-    t.columns[1] = column(1, Kind::Rates, high);
-    t.rows[0] = example_row(second, 7);
-    t.rows[1] = example_row(first, 4);
-    t.count = 2;
-    let mut d = no_directory();
-    d.there = true;
-    d.exist = low;
-    d.class = low;
-    d.tables[0] = t;
-    let mut s = empty_store();
-    s.dirs[0] = d;
-    s
+    let b = no_berth();
+    let b0 = berth(class(1, 1));
+    let b1 = berth(class(1, 2));
+    let g = no_group();
+    let g0 = group(low);
+    let g1 = group(high);
+    let c = no_column();
+    let c0 = column(0, Kind::Counts, low);
+    let c1 = column(1, Kind::Rates, high);
+    Table {
+        there: true,
+        class: low,
+        max: class(3, 3),
+        berths: [b0, b1, b, b],
+        groups: [g0, g1, g, g],
+        columns: [c0, c1, c, c, c, c, c, c],
+        count,
+        rows,
+    }
+}
+
+fn example_with(count: usize) -> Store {
+    let low = class(0, 0);
+    let e = no_row();
+    let mut rows = [e; 32];
+    let r0 = example_row(class(1, 2), 7);
+    let r1 = example_row(class(1, 1), 4);
+    rows[0] = r0;
+    rows[1] = r1;
+    let t = example_table(rows, count);
+    let d = single(low, low, t);
+    alone(d)
 }
 
 // ---- a full store: 4 directories of 2 tables, each with 4 berths, 4 groups, 8 columns and 32 rows
@@ -137,92 +167,66 @@ fn full_row(berth: usize) -> Row {
     }
 }
 
-fn full_rows() -> [Row; 32] {
-    let a = full_row(0);
-    let b = full_row(1);
-    let c = full_row(2);
-    let d = full_row(3);
-    [
-        a,
-        a,
-        a,
-        a,
-        a,
-        a,
-        a,
-        a,
-        b,
-        b,
-        b,
-        b,
-        b,
-        b,
-        b,
-        b,
-        c,
-        c,
-        c,
-        c,
-        c,
-        c,
-        c,
-        c,
-        d,
-        d,
-        d,
-        d,
-        d,
-        d,
-        d,
-        d,
-    ]
+// The berth that a row goes to: eight to a berth, or nine.
+fn berth_of(i: usize, nine: bool) -> usize {
+    if nine {
+        return i / 9;
+    }
+    i / 8
 }
 
-fn full_table() -> Table {
+// Rows of the berths in turn.
+fn full_rows(nine: bool) -> [Row; 32] {
+    let e = no_row();
+    let mut rows = [e; 32];
+    let mut i: usize = 0;
+    while i < 32 {
+        let r = full_row(berth_of(i, nine));
+        rows[i] = r;
+        i += 1;
+    }
+    rows
+}
+
+fn full_table(nine: bool) -> Table {
     let low = class(0, 0);
-    let mut t = no_table();
-    t.there = true;
-    t.class = low;
-    t.max = class(3, 15);
-    t.berths[0] = berth(class(1, 1));
-    t.berths[1] = berth(class(1, 2));
-    t.berths[2] = berth(class(1, 4));
-    t.berths[3] = berth(class(1, 8));
+    let b0 = berth(class(1, 1));
+    let b1 = berth(class(1, 2));
+    let b2 = berth(class(1, 4));
+    let b3 = berth(class(1, 8));
     let g0 = group(low);
     let g3 = group(class(2, 15));
-    let gs = [g0, g0, g0, g3];
-    t.groups = gs;
     let c0 = column(0, Kind::Counts, low);
     let c3 = column(3, Kind::Counts, low);
-    let ks = [c0, c0, c0, c0, c0, c0, c0, c3];
-    t.columns = ks;
-    let rows = full_rows();
-    t.rows = rows;
-    t.count = 32;
-    t
+    let rows = full_rows(nine);
+    Table {
+        there: true,
+        class: low,
+        max: class(3, 15),
+        berths: [b0, b1, b2, b3],
+        groups: [g0, g0, g0, g3],
+        columns: [c0, c0, c0, c0, c0, c0, c0, c3],
+        count: 32,
+        rows,
+    }
 }
 
-fn full() -> Store {
+fn pair(exist: Class, class: Class, t: Table) -> Directory {
+    Directory {
+        there: true,
+        exist,
+        class,
+        tables: [t, t],
+    }
+}
+
+fn full(nine: bool) -> Store {
     let low = class(0, 0);
-    let t = full_table();
-    let open = Directory {
-        there: true,
-        exist: low,
-        class: low,
-        tables: [t, t],
-    };
-    let shut = Directory {
-        there: true,
-        exist: low,
-        class: class(3, 15),
-        tables: [t, t],
-    };
-    let unseen = Directory {
-        there: true,
-        exist: class(3, 15),
-        class: low,
-        tables: [t, t],
-    };
+    let high = class(3, 15);
+    let t = full_table(nine);
+    let open = pair(low, low, t);
+    let shut = pair(low, high, t);
+    let unseen = pair(high, low, t);
     Store {
         dirs: [open, open, shut, unseen],
     }
@@ -388,76 +392,16 @@ fn show(name: &[u8], s: Store) {
     look(0, 0, s);
 }
 
-// The example with a ninth row in a berth, which no store may have.
-fn crowded() -> Store {
-    let first = class(1, 1);
-    let mut s = example();
-    let mut d = s.dirs[0];
-    let mut t = d.tables[0];
-    let r = example_row(first, 4);
-    let e = no_row();
-    let rows = [
-        r,
-        r,
-        r,
-        r,
-        r,
-        r,
-        r,
-        r,
-        r,
-        e,
-        e,
-        e,
-        e,
-        e,
-        e,
-        e,
-        e,
-        e,
-        e,
-        e,
-        e,
-        e,
-        e,
-        e,
-        e,
-        e,
-        e,
-        e,
-        e,
-        e,
-        e,
-        e,
-    ];
-    t.rows = rows;
-    t.count = 9;
-    d.tables[0] = t;
-    s.dirs[0] = d;
-    s
-}
-
-// The example with a row left standing behind the count.
-fn untidy() -> Store {
-    let mut s = example();
-    let mut d = s.dirs[0];
-    let mut t = d.tables[0];
-    t.count = 1;
-    d.tables[0] = t;
-    s.dirs[0] = d;
-    s
-}
-
 fn main() {
-    let e = example();
+    let e = example_with(2);
     show(b"the example", e);
     let seen = view_at(class(1, 1), e);
     let v = seen.store;
     show(b"its view at 1 00000001", v);
-    let f = full();
+    let f = full(false);
     show(b"a full store", f);
-    let c = crowded();
+    let c = full(true);
     show(b"nine rows in a berth", c);
-    let u = untidy();
+    let u = example_with(1);
     show(b"a row behind the count", u);
 }

@@ -286,17 +286,15 @@ pub fn view_directory(c: Class, d: Directory) -> Directory
 pub fn view_store(c: Class, s: Store) -> Store
     ensures { λ r. ⌜ r ≡ packed (model.view c (unpacked s)) ⌝ }
 {
-    let d0 = s.dirs[0];
-    let d1 = s.dirs[1];
-    let d2 = s.dirs[2];
-    let d3 = s.dirs[3];
-    let v0 = view_directory(c, d0);
-    let v1 = view_directory(c, d1);
-    let v2 = view_directory(c, d2);
-    let v3 = view_directory(c, d3);
-    Store {
-        dirs: [v0, v1, v2, v3],
+    let mut q = s;
+    let mut i: usize = 0;
+    while i < 4 {
+        let d = q.dirs[i];
+        let v = view_directory(c, d);
+        q.dirs[i] = v;
+        i += 1;
     }
+    q
 }
 
 // The view of a store that keeps the rules; of any other store the reply 21, and the store as it was.

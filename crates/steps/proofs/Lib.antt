@@ -1,0 +1,3 @@
+-- Laws of steps along a line.
+pub mod StepLaws
+pub mod FormLaws
