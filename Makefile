@@ -4,8 +4,12 @@
 run:
 	@rt check
 	@echo
-	@echo "The definitions and every claim about them are proved. Document 01's example, tabs shown as spaces; its six commands"
-	@echo "are the cards P1 to P6, which the proof computes (crates/model/specs/Cards.antt):"
+	@echo "Everything is proved. What clearances see of two stores, by the proved code (crates/tour):"
+	@echo
+	@sed 's/^/  /' crates/tour/stdout
+	@echo
+	@echo "Document 01's example, tabs shown as spaces. Its six commands are the cards P1 to P6, which the proof computes"
+	@echo "(crates/model/specs/Cards.antt):"
 	@echo
 	@sed 's/^/  in   /' examples/bench.in | tr '\t' ' '
 	@echo
