@@ -1,0 +1,4 @@
+-- Laws by subject.
+pub mod FlatLaws
+pub mod TabLaws
+pub mod FieldLaws

@@ -1,0 +1,3 @@
+-- A store as a sheet.
+pub mod Texts
+pub mod Writing
