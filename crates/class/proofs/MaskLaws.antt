@@ -7,7 +7,7 @@ use Prim.Native.Nat.{ℕ, zero, suc, ◌+◌, ◌-◌, ◌*◌, ◌/◌, ◌%◌
 use native.Mathlib.Omega.{arith}
 use lib.Dec.{eqb}
 use lib.Bits.{bit_and, and_step}
-use borrow.Author.Tests.{eqb-true, eq-eqb, le_leb, lt-leb}
+use borrow.Author.Tests.{eqb-true, eq-eqb, le-leb, lt-leb}
 use Rattle.model.specs.declared.Class.{Class}
 use Rattle.model.specs.Classes.{dominates, within}
 use Rattle.model.proofs.OrderLaws.{within_eq, eq_within}
@@ -61,4 +61,4 @@ dominates_low a b h = rw (lt-leb b.level a.level h)
 pub dominates_mask : (k : ℕ) (a b : Class) → a.marks < 2 ^ k → b.marks < 2 ^ k → b.level ≤ a.level
     → eqb (bit_and b.marks (2 ^ k - 1 - a.marks)) 0 ≡ dominates a b
 unfolding dominates
-dominates_mask k a b ha hb h = rw (le_leb b.level a.level h) (mask_within k a.marks b.marks ha hb)
+dominates_mask k a b ha hb h = rw (le-leb b.level a.level h) (mask_within k a.marks b.marks ha hb)

@@ -10,7 +10,7 @@ use native.Mathlib.Nat.{zero-add}
 use native.Mathlib.Omega.{arith}
 use lib.Dec.{leb, leb-suc-suc, leb-suc-zero, leb-zero, ltb}
 use lib.ListN.{length}
-use borrow.Author.Tests.{le_leb, le-ltb, leb-true, ltb-false}
+use borrow.Author.Tests.{le-leb, le-ltb, leb-true, ltb-false}
 use Rattle.model.specs.declared.Class.{Class}
 use Rattle.model.specs.declared.Field.{Field}
 use Rattle.model.specs.declared.Kind.{Kind}
@@ -142,7 +142,7 @@ tick_reflects : {P X Y : Type 0} (b : Bool) (n k : ℕ) → Reflects b P → Ref
     → Reflects (leb (suc n) (tick b k)) ((P × X) ⊎ Y)
 tick_reflects true n k r x y = (
   λ e. inl (r.0 refl, x.0 (sym (leb-suc-suc n k) ∙ e)),
-  ⊎_elim (λ h. leb-suc-suc n k ∙ x.1 h.1) (λ h. let z = leb-true (suc n) k (y.1 h) in le_leb (suc n) (suc k) (omega arith)),
+  ⊎_elim (λ h. leb-suc-suc n k ∙ x.1 h.1) (λ h. let z = leb-true (suc n) k (y.1 h) in le-leb (suc n) (suc k) (omega arith)),
 )
 tick_reflects false n k r x y = (λ e. inr (y.0 e), ⊎_elim (λ h. absurd (false≢true (r.1 h.0))) y.1)
 

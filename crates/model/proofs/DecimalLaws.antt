@@ -9,7 +9,7 @@ use native.Mathlib.Nat.{div-lt_iff_lt-mul, le_antisymm, le-div_iff_mul-le, mod-e
 use native.Mathlib.Omega.{arith}
 use lib.Dec.{eqb, leb, ltb}
 use lib.ListN.{length}
-use borrow.Author.Tests.{eqb-false, le_leb, leb-true, lt-ltb, ltb-false, ltb-true, ne_eqb}
+use borrow.Author.Tests.{eqb-false, le-leb, leb-true, lt-ltb, ltb-false, ltb-true, ne_eqb}
 use Rattle.model.specs.Numbers.{Bytes, dec_digit, dec_text, dec_value, digit_byte, digits, leads_well, num_from, on_num, places, read_dec, up_to}
 use Rattle.model.proofs.Tests.{not-true}
 use Rattle.model.proofs.OptionLaws.{cond-some, nothing_is}
@@ -90,7 +90,7 @@ pub dec_read : (limit v : ℕ) → v ≤ limit → read_dec limit (dec_text v) �
 unfolding read_dec dec_value
 dec_read limit v h =
     let e : num_from dec_digit 10 0 (dec_text v) ≡ some v = unfold dec_text in (read-digits dec_rule (places v v) 0 v ∙ rw (mod-eq_of_lt (places_lt v), zero-mul, zero-add)) in
-    rw (dec_leads v, e, le_leb v limit h)
+    rw (dec_leads v, e, le-leb v limit h)
 
 -- a text that leads well is as long as its number's
 well_long : (s : Bytes) (v : ℕ) → leads_well s ≡ true → num_from dec_digit 10 0 s ≡ some v → places v v ≡ length s

@@ -7,7 +7,7 @@ use mathlib.Core.Option.{Option, none, some}
 use Prim.Native.Nat.{◌<◌, ◌≤◌, suc, zero, ℕ}
 use lib.Dec.{eqb, leb}
 use lib.ListN.{length}
-use borrow.Author.Tests.{le_leb, leb-false}
+use borrow.Author.Tests.{le-leb, leb-false}
 use Rattle.model.specs.declared.Class.{Class}
 use Rattle.model.specs.declared.Field.{Field}
 use Rattle.model.specs.declared.Kind.{Kind}
@@ -179,7 +179,7 @@ module _ (c : Class) (t : Table) (f : TableRules t) where
       room b e = rw in_berth-last (go (same c b) refl)
         where
           go : (x : Bool) → same c b ≡ x → leb (tick x (in_berth b t.rows)) 8 ≡ true
-          go true p = le_leb (suc (in_berth b t.rows)) 8 (rw (same_eq c b p) at (room-stored c t h11))
+          go true p = le-leb (suc (in_berth b t.rows)) 8 (rw (same_eq c b p) at (room-stored c t h11))
           go false p = e
 
   amend-ok : (es : List Change) → all (λ (e : Change). fitting c t e.column e.new) es ≡ true

@@ -10,13 +10,13 @@ use native.Mathlib.Omega.{arith}
 use lib.Arith.{digits_div, digits_mod, mod-mul}
 use lib.Dec.{eqb, leb, ltb}
 use lib.ListN.{length}
-use borrow.Author.Tests.{eq-eqb, eqb-true, le_leb, le-ltb, leb-true, lt-leb, lt-ltb, ltb-false, ltb-true}
+use borrow.Author.Tests.{eq-eqb, eqb-true, le-leb, le-ltb, leb-true, lt-leb, lt-ltb, ltb-false, ltb-true}
 use Rattle.model.specs.Numbers.{Bytes, between, dec_digit, digit_byte, digits, hex_digit, num_from, places, read_hex}
 use Rattle.model.proofs.OptionLaws.{cond-some, nothing_is}
 
 -- ---- between two bounds
 pub in_range : (a b e : ℕ) → a ≤ b → b ≤ e → between a b e ≡ true
-in_range a b e p q = simp (le_leb a b p, le_leb b e q)
+in_range a b e p q = simp (le-leb a b p, le-leb b e q)
 
 pub under_range : (a b e : ℕ) → b < a → between a b e ≡ false
 under_range a b e p = simp (lt-leb a b p)

@@ -8,7 +8,7 @@ use mathlib.Core.Option.{Option, none, some}
 use Prim.Native.Nat.{◌<◌, ◌≤◌, ℕ}
 use native.Mathlib.Omega.{arith}
 use lib.Dec.{eqb, leb, ltb}
-use borrow.Author.Tests.{eq-eqb, eqb-true, le_leb, leb-true, lt-ltb, ltb-true}
+use borrow.Author.Tests.{eq-eqb, eqb-true, le-leb, leb-true, lt-ltb, ltb-true}
 use Rattle.model.specs.declared.Class.{Class}
 use Rattle.model.specs.Places.{any, present, sure, twice}
 use Rattle.model.specs.Classes.{same}
@@ -95,7 +95,7 @@ pub eqb_reflects : (m n : ℕ) → Reflects (eqb m n) (m ≡ n)
 eqb_reflects m n = (eqb-true m n, eq-eqb m n)
 
 pub leb_reflects : (m n : ℕ) → Reflects (leb m n) (m ≤ n)
-leb_reflects m n = (leb-true m n, le_leb m n)
+leb_reflects m n = (leb-true m n, le-leb m n)
 
 pub ltb_reflects : (m n : ℕ) → Reflects (ltb m n) (m < n)
 ltb_reflects m n = (ltb-true m n, lt-ltb m n)

@@ -8,7 +8,7 @@ use Prim.Native.Nat.{◌≤◌, suc-le-suc, zero, ℕ}
 use native.Mathlib.Nat.{le_refl, le-suc, le_trans}
 use lib.Dec.{eqb}
 use lib.ListN.{length}
-use borrow.Author.Tests.{le_leb, leb-true}
+use borrow.Author.Tests.{le-leb, leb-true}
 use Rattle.model.specs.declared.Class.{Class}
 use Rattle.model.specs.declared.Field.{Field}
 use Rattle.model.specs.declared.Kind.{Kind}
@@ -71,7 +71,7 @@ le_tick false n = le_refl n
 -- a berth that has no more rows than before still has at most 8
 pub fewer_room : (rs fewer : List Row) (b : Class) → in_berth b fewer ≤ in_berth b rs → room_ok rs b ≡ true → room_ok fewer b ≡ true
 unfolding room_ok
-fewer_room rs fewer b h e = le_leb (in_berth b fewer) 8 (le_trans h (leb-true (in_berth b rs) 8 e))
+fewer_room rs fewer b h e = le-leb (in_berth b fewer) 8 (le_trans h (leb-true (in_berth b rs) 8 e))
 
 -- ---- the view of each part
 module _ (C : Class) where

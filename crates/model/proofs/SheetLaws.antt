@@ -10,7 +10,7 @@ use native.Mathlib.Omega.{arith}
 use lib.Dec.{leb, ltb}
 use lib.ListN.{drop, length}
 use lib.Seq.{take-append_seam}
-use borrow.Author.Tests.{le_leb, leb-true}
+use borrow.Author.Tests.{le-leb, leb-true}
 use Rattle.model.specs.declared.Reply.{Reply}
 use Rattle.model.specs.declared.Reply.TheVariants.{Done, RoomShort, RuleBroken, SheetLong}
 use Rattle.model.specs.Places.{and_then, nones}
@@ -142,7 +142,7 @@ module _ (w : ℕ) where
   -- a text is taken where it is of the form and may stand
   taken-there : (bs : Bytes) (h : Heading) (s : Store) → may_stand w h s ≡ true → length bs ≤ 65536 → sheet_text w h s ≡ bs → reading w bs ≡ taken h s
   unfolding reading judged may_stand
-  taken-there bs h s m n q = rw (le_leb (length bs) 65536 n, ← q, sheet-there h s (and-fst (rules w s) (shows h s) m), m)
+  taken-there bs h s m n q = rw (le-leb (length bs) 65536 n, ← q, sheet-there h s (and-fst (rules w s) (shows h s) m), m)
 
   -- and only there
   judged-back : (o : Option (Heading × Store)) (h : Heading) (s : Store) → judged w o ≡ taken h s → (may_stand w h s ≡ true) × (o ≡ some (h, s))

@@ -11,7 +11,7 @@ use native.Mathlib.Omega.{arith}
 use lib.Dec.{leb, ltb}
 use lib.Ieee.{binary32, is_nan, nan_bits, of_bits, to_bits}
 use lib.Ieee.Bits.{nan_bits_is, of_bits-fits, of_bits-to_bits, to_bits-lt, to_bits-of_bits}
-use borrow.Author.Tests.{le_leb, leb-true, lt-ltb, ltb-true}
+use borrow.Author.Tests.{le-leb, leb-true, lt-ltb, ltb-true}
 use Rattle.model.specs.declared.Class.{Class}
 use Rattle.model.specs.declared.Field.{Field}
 use Rattle.model.specs.declared.Kind.{Kind}
@@ -130,7 +130,7 @@ module _ (w : ℕ) where
   class-read-sound [] k e = nothing_is e
   class-read-sound (b ∷ bs) k e =
       let (p, q, r) = class-parts b bs k e in
-      both (leb k.level 3) (ltb k.marks (16 ^ w)) (le_leb k.level 3 (omega arith)) (lt-ltb k.marks (16 ^ w) (hex_text w k.marks bs r).0)
+      both (leb k.level 3) (ltb k.marks (16 ^ w)) (le-leb k.level 3 (omega arith)) (lt-ltb k.marks (16 ^ w) (hex_text w k.marks bs r).0)
 
   pub class-sure : Sure (class w) ClassIn
   class-sure = record { there = there; back = class_back; sound = class-read-sound; clean = clean }

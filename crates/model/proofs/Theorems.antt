@@ -53,9 +53,9 @@ pub theorems : Theorems
 theorems =
     record {
       dominance = MarkLaws.dominance;
-      reflexive = OrderLaws.dominates-refl;
-      transitive = OrderLaws.dominates-trans;
-      antisymmetric = OrderLaws.dominates-antisym;
+      reflexive = OrderLaws.dominates_refl;
+      transitive = OrderLaws.dominates_trans;
+      antisymmetric = OrderLaws.dominates_antisym;
       common-part = OrderLaws.dominates-common;
       view-keeps = SoundLaws.view-keeps;
       view-twice = ViewLaws.view-two;

@@ -8,7 +8,7 @@ use native.Mathlib.Numerals.{add-one}
 use native.Mathlib.Omega.{arith}
 use lib.ListN.{length, length-append, set, take}
 use lib.Seq.{length-take-le, take-suc-set}
-use borrow.Author.Tests.{le_leb, lt-leb}
+use borrow.Author.Tests.{le-leb, lt-leb}
 use Rattle.model.specs.declared.Class.{Class}
 use Rattle.model.specs.declared.Field.{Field}
 use Rattle.model.specs.declared.Value.{Value}
@@ -115,4 +115,4 @@ module _ (s : Bytes) (X : Option (List Field)) (fs : List Field) (n at : ℕ) (l
   row_ends m h k =
       let z : length (take n fs) ≡ n = length-take-le n fs h in
       let e : X ≡ some (take n fs) = left ∙ ap (λ (l : List Bytes). map_o added (read_fields 8 l)) (fields-end 9 s at k) ∙ (unfold read_fields in ap some (append-nil (take n fs))) in
-      rw (e, le_leb (length (take n fs)) 8 (omega arith))
+      rw (e, le-leb (length (take n fs)) 8 (omega arith))

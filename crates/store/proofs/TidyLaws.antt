@@ -5,7 +5,7 @@ use mathlib.Core.Bool.{◌||◌, true}
 use Prim.Native.Nat.{◌≤◌}
 use lib.Dec.{eqb}
 use lib.ListN.{drop, length}
-use borrow.Author.Tests.{eq-eqb, eqb-true, le_leb, leb-true}
+use borrow.Author.Tests.{eq-eqb, eqb-true, le-leb, leb-true}
 use Rattle.model.specs.Places.{all, conj}
 use Rattle.model.specs.Classes.{class_sound}
 use Rattle.model.proofs.Tests.{and-fst, and-snd, both}
@@ -69,7 +69,7 @@ unfolding table_tidy table_parts
 table_tidy_lem t y =
     both (conj (table_parts t)) (conj (table_lengths t))
     (of_facts (table_parts t)
-    (y.class, (y.max, (y.berths, (y.groups, (y.columns, (le_leb t.count 32 y.count, (y.rows, (y.rest, (y.absent, tt))))))))))
+    (y.class, (y.max, (y.berths, (y.groups, (y.columns, (le-leb t.count 32 y.count, (y.rows, (y.rest, (y.absent, tt))))))))))
     (table_lengths_lem t y.long)
 
 pub record TidyDirectory (d : Directory) : Type 0 where

@@ -9,7 +9,7 @@ use native.Mathlib.Omega.{arith}
 use lib.Dec.{eqb, leb}
 use lib.ListN.{drop, get_or, length, length-drop, take}
 use lib.Seq.{drop-cons, drop-drop}
-use borrow.Author.Tests.{eq-eqb, le_leb, leb-false, leb-true, lt-leb, ne_eqb}
+use borrow.Author.Tests.{eq-eqb, le-leb, leb-false, leb-true, lt-leb, ne_eqb}
 use Rattle.model.specs.Lines.{onto, split}
 use Rattle.model.specs.Numbers.{Bytes}
 use Rattle.text.specs.Fields.{behind, end_of, field_at, fields_at, first_of, others_of}
@@ -42,7 +42,7 @@ module _ (b : ℕ) where
   -- ---- the fields from a place on: all of them, none, and what stands between
   pub fields_start : (s : Bytes) → fields_at b s 0 ≡ split b s
   unfolding fields_at
-  fields_start s = rw (le_leb 0 (length s) (omega arith))
+  fields_start s = rw (le-leb 0 (length s) (omega arith))
 
   pub fields-end : (s : Bytes) (at : ℕ) → length s < at → fields_at b s at ≡ []
   unfolding fields_at
@@ -50,7 +50,7 @@ module _ (b : ℕ) where
 
   pub fields_in : (s : Bytes) (at : ℕ) → at ≤ length s → fields_at b s at ≡ split b (drop at s)
   unfolding fields_at
-  fields_in s at h = rw (le_leb at (length s) h)
+  fields_in s at h = rw (le-leb at (length s) h)
 
   -- a place of what is left from another
   fields-drop : (s : Bytes) (at k : ℕ) → at ≤ length s → fields_at b (drop at s) k ≡ fields_at b s (at + k)

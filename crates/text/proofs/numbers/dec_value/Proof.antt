@@ -6,7 +6,7 @@ use Prim.Native.Nat.{◌-◌, ◌≤◌}
 use native.Mathlib.Omega.{arith}
 use lib.ListN.{drop, get_or, length}
 use borrow.Author.Rules.{rules}
-use borrow.Author.Tests.{le_leb}
+use borrow.Author.Tests.{le-leb}
 use Rattle.model.specs.Numbers.{dec_digit, dec_value, num_from}
 use Rattle.text.specs.Nums.{num_of}
 use Rattle.text.proofs.ReadLaws.{dec_over, num_end, num_more, num_stop}
@@ -83,7 +83,7 @@ unfolding dec_value
 returns-4 c =
     let L = c.before in
     let s = L.before.before.args.s.now in
-    simp (L.loop.invariant.2, num_end dec_digit 10 s _ L.loop.acc c.loop-test.false, le_leb _ _ L.loop.invariant.1)
+    simp (L.loop.invariant.2, num_end dec_digit 10 s _ L.loop.acc c.loop-test.false, le-leb _ _ L.loop.invariant.1)
 
 pub dec-value-spec : {M : Type 1} → statement M
 dec-value-spec =
