@@ -1,4 +1,6 @@
 // Whether the structs are the ones that stand for a store: each directory and table is tidy, in that what is absent is its constant.
+#![tactic(auto)]
+
 ghost use Rattle.std.specs.Prelude.{◌≡◌};
 ghost use Rattle.model.specs.Places.{conj};
 ghost use Rattle.store.specs.Canonical.{table_empty, table_tidy, directory_empty, directory_tidy, canonical};

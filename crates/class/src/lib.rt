@@ -1,4 +1,6 @@
 // Classes: their order, their common part, and their text.
+#![tactic(auto)]
+
 ghost use Rattle.std.specs.Prelude.{◌≡◌};
 ghost use Rattle.model.specs.Classes as order;
 

@@ -1,4 +1,6 @@
 // The lines of a sheet: its heading, and a line for each kind of record. None asks anything of the room.
+#![tactic(auto)]
+
 ghost use Rattle.std.specs.Prelude.{cond, [], ◌∷◌};
 ghost use Rattle.model.specs.Numbers.{dec_text};
 ghost use Rattle.model.specs.Records as records;

@@ -1,4 +1,6 @@
 // Values and fields: kinds, rates by their bits, sameness, hiding, what is ours, and their text.
+#![tactic(auto)]
+
 ghost use Rattle.std.specs.Prelude.{◌≡◌, not, ◌&&◌};
 ghost use Rattle.std.specs.Float.{binary32};
 ghost use Rattle.std.specs.Float.Ieee.{is_nan, nan_bits, to_bits};

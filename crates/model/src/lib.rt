@@ -1,4 +1,5 @@
 // The leaf types of the record store. What they mean stands in specs/; there are no functions here.
+#![tactic(auto)]
 
 // A clearance, or the class of a part: a level, and a set of slot marks, slot 1 as the lowest bit.
 #[derive(Drop)]

@@ -1,4 +1,6 @@
 // One line of a sheet, without its line feed, read as a record. Its fields are looked at one after another, from the first on.
+#![tactic(auto)]
+
 ghost use Rattle.std.specs.Prelude.{◌≡◌, []};
 ghost use Rattle.model.specs.Lines.{fields_of};
 ghost use Rattle.model.specs.Places.{and_then};

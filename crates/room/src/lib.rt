@@ -1,5 +1,7 @@
 // Writers of text into a room that a caller lends. None asks anything of the room: a byte past its end is not stored, so that on an empty
 // room they only count.
+#![tactic(auto)]
+
 ghost use Rattle.std.specs.Prelude.{◌≡◌, [], ◌∷◌, ◌+◌, ◌/◌, ◌^◌, ◌≤◌, min};
 ghost use Rattle.model.specs.Numbers.{dec_text, digits};
 ghost use Rattle.room.specs.Writing.{Wrote, most};

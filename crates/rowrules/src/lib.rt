@@ -1,4 +1,6 @@
 // Whether rows keep the rules: the berth and the fields of each, how many a berth has, and that none is hidden.
+#![tactic(auto)]
+
 ghost use Rattle.std.specs.Prelude.{◌≡◌, take};
 ghost use mathlib.Core.List.{map, zip_with};
 ghost use Rattle.model.specs.Classes as order;

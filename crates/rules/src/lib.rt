@@ -1,4 +1,6 @@
 // Whether a store by value keeps the rules.
+#![tactic(auto)]
+
 ghost use Rattle.std.specs.Prelude.{◌≡◌, not, map};
 ghost use Rattle.model.specs.Places.{all_in, twice};
 ghost use Rattle.model.specs.Rules.{berth_ok, column_ok, plain, ruled, same_berth};

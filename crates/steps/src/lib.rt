@@ -1,5 +1,7 @@
 // Steps along a line: the field at a place is read and the place behind it handed on, so that a line is looked through once.
 // What is left of a line at a place are its fields from there on; behind the last there are none.
+#![tactic(auto)]
+
 ghost use Rattle.std.specs.Prelude.{◌≡◌};
 ghost use Rattle.model.specs.Forms.{only, parse_only, parse_then};
 ghost use Rattle.model.specs.Texts as texts;

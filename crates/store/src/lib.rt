@@ -1,4 +1,6 @@
 // The store by value: nested structs of arrays. A part that may be absent has a mark, `there`; rows stand first to last, as many as the count.
+#![tactic(auto)]
+
 ghost use Rattle.std.specs.Prelude.{◌≡◌, min};
 ghost use Rattle.model.specs.Places.{nones};
 ghost use Rattle.store.specs.Packed.{no_field, no_row, no_berth, no_group, no_column, no_table, no_directory, packed};

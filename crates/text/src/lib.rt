@@ -1,4 +1,6 @@
 // Numbers, lines and fields read out of bytes.
+#![tactic(auto)]
+
 pub mod lines;
 pub mod numbers;
 

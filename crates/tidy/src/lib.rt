@@ -1,4 +1,6 @@
 // Whether the parts of a table are tidy: each class and value is one of ours, and what is absent is its constant.
+#![tactic(auto)]
+
 ghost use Rattle.std.specs.Prelude.{◌≡◌, take, drop};
 ghost use Rattle.model.specs.Places.{all};
 ghost use Rattle.model.specs.Classes as order;

@@ -1,4 +1,6 @@
 // Looks at two stores made by hand, the document's example and one that is full, and prints what each clearance sees of them.
+#![tactic(auto)]
+
 use field::is_hidden;
 use model::{Class, Field, Kind, Reply, Value};
 use rules::{keeps_rules, keeps_sheet};

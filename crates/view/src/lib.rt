@@ -1,4 +1,6 @@
 // The view of a store at a clearance. An absent part is not looked into, nor is one that the clearance does not see.
+#![tactic(auto)]
+
 ghost use Rattle.std.specs.Prelude.{◌≡◌, map, ◌≤◌, take};
 ghost use Rattle.std.proofs.Math.Option.{some};
 ghost use Rattle.model.specs.Places.{at, present};

@@ -1,4 +1,6 @@
 // A store written as a sheet into a room.
+#![tactic(auto)]
+
 ghost use Rattle.std.specs.Prelude.{◌≡◌, take};
 ghost use Rattle.model.specs.Lines.{flat};
 ghost use Rattle.model.specs.Rooms.{put_into};

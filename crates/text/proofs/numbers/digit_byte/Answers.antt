@@ -1,0 +1,11 @@
+-- Digits and letters.
+-- Assumes nothing.
+use borrow.Author.Rules.{rules}
+use borrow.Author.Tests.{le-ltb, lt-ltb}
+use Rattle.text.proofs.numbers.digit_byte.Goals as goal
+
+pub returns-then-d-lt10 : goal.returns-then-d-lt10
+returns-then-d-lt10 c = simp (lt-ltb _ _ c.if-d-lt10.true)
+
+pub returns : goal.returns
+returns c = simp (le-ltb _ _ c.if-d-lt10.false)

@@ -1,0 +1,21 @@
+-- A test for each end of the two ranges of digits.
+-- Assumes nothing.
+use native.Mathlib.Omega.{arith}
+use borrow.Author.Rules.{rules}
+use Rattle.model.proofs.NumberLaws.{in_range, over_range, under_range}
+use Rattle.text.proofs.numbers.hex_digit.Goals as goal
+
+pub returns-then-b-lt48 : goal.returns-then-b-lt48
+returns-then-b-lt48 c = let x = c.args.b in simp (under_range 48 x 57 (omega arith), under_range 65 x 70 (omega arith))
+
+pub returns-then-b-le57 : goal.returns-then-b-le57
+returns-then-b-le57 c = let x = c.args.b in simp (in_range 48 x 57 (omega arith) (omega arith))
+
+pub returns-then-b-lt65 : goal.returns-then-b-lt65
+returns-then-b-lt65 c = let x = c.args.b in simp (over_range 48 x 57 (omega arith), under_range 65 x 70 (omega arith))
+
+pub returns-then-b-le70 : goal.returns-then-b-le70
+returns-then-b-le70 c = let x = c.args.b in simp (over_range 48 x 57 (omega arith), in_range 65 x 70 (omega arith) (omega arith))
+
+pub returns : goal.returns
+returns c = let x = c.args.b in simp (over_range 48 x 57 (omega arith), over_range 65 x 70 (omega arith))
