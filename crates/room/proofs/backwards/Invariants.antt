@@ -1,0 +1,19 @@
+-- n digits are made, and those of `rest` are left: there are twenty at most.
+-- Assumes nothing.
+use mathlib.Core.Path.{◌∙◌, ◌≡◌, ap, sym}
+use Prim.Native.Nat.{◌%◌, ◌+◌, ◌/◌, ◌^◌, ◌≤◌, ℕ}
+use native.Mathlib.Nat.{div-one}
+use native.Mathlib.Omega.{arith}
+use lib.ListN.{length, length-set}
+use borrow.Author.Rules.{rules}
+use Rattle.model.specs.Numbers.{digit_byte, digits, places}
+use Rattle.model.proofs.NumberLaws.{places_small}
+use Rattle.room.specs.Turned.{turned}
+use Rattle.room.proofs.DigitLaws.{dec_digits, places_big, places-most, places-some, rest_more, turned_digit, turned_none}
+use Rattle.room.proofs.backwards.Given as goal
+
+abbrev pub invariant-loop-rest : goal.invariant-loop-rest
+invariant-loop-rest l = (length l.bytes ≡ 20) × (l.rest ≡ l.v / 10 ^ l.n) × (l.n + places l.rest l.rest ≡ places l.v l.v) × (places l.v l.v ≤ 20) × (turned l.n l.bytes ≡ digits 10 l.n l.v)
+
+abbrev pub decreases-loop-rest : goal.decreases-loop-rest
+decreases-loop-rest l = l.rest
