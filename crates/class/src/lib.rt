@@ -9,7 +9,7 @@ use model::Class;
 pub mod texts;
 
 // A class that was read, or none.
-#[derive(Drop)]
+#[derive(Clone, Copy)]
 pub enum ReadClass {
     Good(Class),
     Bad,

@@ -19,7 +19,7 @@ use room::{put, put_byte, put_dec};
 use store::{Berth, Column, Group, Row};
 
 // The first line of a sheet: of a whole store, or of a view.
-#[derive(Drop)]
+#[derive(Clone, Copy)]
 pub enum Heading {
     Sheet,
     View,

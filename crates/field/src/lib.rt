@@ -12,14 +12,14 @@ use model::{Class, Field, Kind, Value};
 pub mod texts;
 
 // A value that was read, or none.
-#[derive(Drop)]
+#[derive(Clone, Copy)]
 pub enum ReadValue {
     Good(Value),
     Bad,
 }
 
 // A kind that was read, or none.
-#[derive(Drop)]
+#[derive(Clone, Copy)]
 pub enum ReadKind {
     Good(Kind),
     Bad,

@@ -2,14 +2,14 @@
 #![tactic(auto)]
 
 // A clearance, or the class of a part: a level, and a set of slot marks, slot 1 as the lowest bit.
-#[derive(Drop)]
+#[derive(Clone, Copy)]
 pub struct Class {
     pub level: u8,
     pub marks: u32,
 }
 
 // What a field holds.
-#[derive(Drop)]
+#[derive(Clone, Copy)]
 pub enum Value {
     Blank,
     Count(u32),
@@ -22,7 +22,7 @@ pub enum Value {
 }
 
 // What a column holds.
-#[derive(Drop)]
+#[derive(Clone, Copy)]
 pub enum Kind {
     Counts,
     Rates,
@@ -30,14 +30,14 @@ pub enum Kind {
 }
 
 // A class together with a value.
-#[derive(Drop)]
+#[derive(Clone, Copy)]
 pub struct Field {
     pub class: Class,
     pub value: Value,
 }
 
 // What is said to whoever asks. Each has a number: specs/Replies.antt.
-#[derive(Drop)]
+#[derive(Clone, Copy)]
 pub enum Reply {
     Done,
     LeftOut,

@@ -18,7 +18,7 @@ use steps::{
 use text::lines::{after, part};
 
 // What a line says: the numbers that lead to a part, of a directory, of a table in it and of a part in that, then what the part carries.
-#[derive(Drop)]
+#[derive(Clone, Copy)]
 pub enum Part {
     // The line is not of the form.
     Bad,
@@ -35,7 +35,7 @@ pub enum Part {
 }
 
 // A part, and the first `count` of the fields, where it is a row.
-#[derive(Drop)]
+#[derive(Clone, Copy)]
 pub struct Record {
     pub part: Part,
     pub count: usize,
@@ -43,7 +43,7 @@ pub struct Record {
 }
 
 // The numbers and the class of a berth or a group, or none.
-#[derive(Drop)]
+#[derive(Clone, Copy)]
 enum Slot {
     Is(u8, u8, u8, Class),
     Bad,

@@ -65,7 +65,7 @@ pub fn put_hex(room: &mut [u8], at: usize, v: u64, n: usize) -> usize
 }
 
 // The decimal digits of a number, its last digit first.
-#[derive(Drop)]
+#[derive(Clone, Copy)]
 struct Digits {
     bytes: [u8; 20],
     count: usize,

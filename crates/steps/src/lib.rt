@@ -19,49 +19,49 @@ use text::lines::{after, part};
 use text::numbers::read_dec;
 
 // A number, and the place behind its field.
-#[derive(Drop)]
+#[derive(Clone, Copy)]
 pub enum NumStep {
     To(u8, usize),
     Bad,
 }
 
 // A class, and the place behind its field.
-#[derive(Drop)]
+#[derive(Clone, Copy)]
 pub enum ClassStep {
     To(Class, usize),
     Bad,
 }
 
 // A kind, and the place behind its field.
-#[derive(Drop)]
+#[derive(Clone, Copy)]
 pub enum KindStep {
     To(Kind, usize),
     Bad,
 }
 
 // A value, and the place behind its field.
-#[derive(Drop)]
+#[derive(Clone, Copy)]
 pub enum ValueStep {
     To(Value, usize),
     Bad,
 }
 
 // A class with the value behind it, and the place behind both.
-#[derive(Drop)]
+#[derive(Clone, Copy)]
 pub enum FieldStep {
     To(Field, usize),
     Bad,
 }
 
 // The numbers of a directory and of a table in it, and the place behind both.
-#[derive(Drop)]
+#[derive(Clone, Copy)]
 pub enum TableStep {
     To(u8, u8, usize),
     Bad,
 }
 
 // A class with the value behind it, or none.
-#[derive(Drop)]
+#[derive(Clone, Copy)]
 pub enum ReadField {
     Good(Field),
     Bad,

@@ -9,28 +9,28 @@ ghost use Rattle.store.specs.Numbered.{table_at, put_table};
 use model::{Class, Field, Kind, Value};
 
 // A row: its existence class, and a field for each column, blank where the column is absent.
-#[derive(Drop)]
+#[derive(Clone, Copy)]
 pub struct Row {
     pub exist: Class,
     pub fields: [Field; 8],
 }
 
 // A berth is its class.
-#[derive(Drop)]
+#[derive(Clone, Copy)]
 pub struct Berth {
     pub there: bool,
     pub class: Class,
 }
 
 // A group is its existence class.
-#[derive(Drop)]
+#[derive(Clone, Copy)]
 pub struct Group {
     pub there: bool,
     pub exist: Class,
 }
 
 // A column: the number of its group, its kind, and its default.
-#[derive(Drop)]
+#[derive(Clone, Copy)]
 pub struct Column {
     pub there: bool,
     pub group: u8,
@@ -39,7 +39,7 @@ pub struct Column {
 }
 
 // A table: its class and its maximum, its berths, groups and columns by number, and its rows, oldest first.
-#[derive(Drop)]
+#[derive(Clone, Copy)]
 pub struct Table {
     pub there: bool,
     pub class: Class,
@@ -52,7 +52,7 @@ pub struct Table {
 }
 
 // A directory: its existence class, its class, and its tables by number.
-#[derive(Drop)]
+#[derive(Clone, Copy)]
 pub struct Directory {
     pub there: bool,
     pub exist: Class,
@@ -61,7 +61,7 @@ pub struct Directory {
 }
 
 // A store is its directories, by number.
-#[derive(Drop)]
+#[derive(Clone, Copy)]
 pub struct Store {
     pub dirs: [Directory; 4],
 }

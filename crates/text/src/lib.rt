@@ -5,7 +5,7 @@ pub mod lines;
 pub mod numbers;
 
 // A number that was read, or none.
-#[derive(Drop)]
+#[derive(Clone, Copy)]
 pub enum Num {
     Is(u64),
     Not,

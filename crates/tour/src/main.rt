@@ -12,7 +12,7 @@ use store::{
 use view::view_at;
 
 // How many parts of each kind a store has, and how many of its fields are hidden.
-#[derive(Drop)]
+#[derive(Clone, Copy)]
 struct Tally {
     directories: u32,
     tables: u32,

@@ -19,14 +19,14 @@ use store::{
 };
 
 // What is answered to whoever asks for a view: a reply, and a store.
-#[derive(Drop)]
+#[derive(Clone, Copy)]
 pub struct Viewed {
     pub reply: Reply,
     pub store: Store,
 }
 
 // The rows that are kept, first to last, and how many they are.
-#[derive(Drop)]
+#[derive(Clone, Copy)]
 pub(crate) struct Rows {
     count: usize,
     rows: [Row; 32],

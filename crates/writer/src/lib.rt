@@ -21,7 +21,7 @@ use rules::{keeps_rules, keeps_sheet};
 use store::{Berth, Column, Directory, Group, Row, Store, Table, small};
 
 // What a writer says: its reply, and how many bytes it wrote.
-#[derive(Drop)]
+#[derive(Clone, Copy)]
 pub struct Written {
     pub reply: Reply,
     pub length: usize,

@@ -1,0 +1,9 @@
+-- `field::meets_value` is what a condition asks of a value.
+-- Assumes nothing.
+use mathlib.Core.Bool.{not, ◌&&◌}
+use borrow.Author.Rules.{rules}
+use Rattle.field.proofs.meets_value.Goals as goal
+
+pub returns : goal.returns
+returns c =
+    λ i. not (c.is_hidden.ensures i) && c.same_value.ensures i
