@@ -1,0 +1,21 @@
+-- The field at the place is read; the place behind it is where the next one stands.
+-- Assumes nothing.
+use mathlib.Core.Path.{◌∙◌, ap, refl, sym}
+use borrow.Author.Rules.{rules}
+use Rattle.model.specs.Texts.{kind, read_letter}
+use Rattle.field.specs.Reading.{kind_in}
+use Rattle.steps.proofs.StepLaws.{step_bad, step_to}
+use Rattle.steps.proofs.kind_at.Goals as goal
+
+pub returns-in_default : goal.returns-in_default
+returns-in_default c =
+    let A = c.args in
+    step_bad kind A.s.now A.at c.part-f.result.now c.part-f.ensures
+    (sym c.read_kind.ensures ∙ ap kind_in c.in_default.is)
+
+pub returns : goal.returns
+unfolding read_letter
+returns c =
+    let A = c.args in
+    step_to kind A.s.now A.at c.part-f.result.now c.part-f.ensures refl c.after-p.result c.after-p.ensures c.in-Good.k
+    (sym c.read_kind.ensures ∙ ap kind_in c.in-Good.is)
