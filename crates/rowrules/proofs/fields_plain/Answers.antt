@@ -1,0 +1,53 @@
+-- Whether the fields pass that the loop has yet to test is whether all do.
+-- Assumes nothing.
+use mathlib.Core.Path.{◌∙◌, ◌≡◌}
+use mathlib.Core.List.{zip_with}
+use Prim.Native.Nat.{◌-◌}
+use native.Mathlib.Omega.{arith}
+use lib.ListN.{drop, length, take}
+use Rattle.model.specs.Places.{all_in}
+use Rattle.model.specs.Rules.{field_plain}
+use Rattle.lists.specs.Folds.{all_pairs}
+use Rattle.lists.proofs.Turns.{pairs_end, pairs_go, pairs_start, pairs_stop, passed, refused}
+use Rattle.store.specs.Packed.{unpacked_field}
+use Rattle.rowrules.specs.Kept.{field_shown}
+use Rattle.rowrules.proofs.RowLaws.{fields-shown}
+use borrow.Author.Rules.{rules}
+use Rattle.rowrules.proofs.fields_plain.Goals as goal
+
+pub loop-i-init : goal.loop-i-init
+loop-i-init c =
+    let columns_long : length c.args.ks ≡ 8 = search rules in
+    let fields_long : length c.args.l ≡ 8 = search rules in
+    let A = c.args in
+    let h : length A.ks ≡ 8 = columns_long in
+    let k : length A.l ≡ 8 = fields_long in
+    pairs_start field_shown A.ks A.l 8 (omega arith) (omega arith) ∙ fields-shown A.ks A.l (omega arith)
+
+pub returns-then-not-field_plain : goal.returns-then-not-field_plain
+returns-then-not-field_plain c =
+    let columns_long : length c.args.ks ≡ 8 = search rules in
+    let fields_long : length c.args.l ≡ 8 = search rules in
+    let L = c in
+    let A = L.args in
+    let h : length A.ks ≡ 8 = columns_long in
+    let k : length A.l ≡ 8 = fields_long in
+    pairs_stop field_shown A.ks A.l 8 _ L.loop-i.i _ _ (omega arith) (omega arith) (omega arith)
+    (refused _ _ c.field_plain.ensures c.if-not-field_plain.true-raw) L.loop-i.invariant
+
+pub loop-i-preserved : goal.loop-i-preserved
+loop-i-preserved c =
+    let columns_long : length c.args.ks ≡ 8 = search rules in
+    let fields_long : length c.args.l ≡ 8 = search rules in
+    let L = c in
+    let A = L.args in
+    let h : length A.ks ≡ 8 = columns_long in
+    let k : length A.l ≡ 8 = fields_long in
+    pairs_go field_shown A.ks A.l 8 _ L.loop-i.i _ _ (omega arith) (omega arith) (omega arith)
+    (passed _ _ c.field_plain.ensures c.if-not-field_plain.false-raw) L.loop-i.invariant
+
+pub returns : goal.returns
+returns c =
+    let L = c in
+    let A = L.args in
+    pairs_end field_shown A.ks A.l 8 _ L.loop-i.i (omega arith) L.loop-i.invariant

@@ -1,0 +1,18 @@
+-- Whether the rows pass that the loop has yet to test is whether all do.
+-- Assumes nothing.
+use mathlib.Core.Path.{◌≡◌, ap}
+use Prim.Native.Nat.{◌-◌}
+use native.Mathlib.Omega.{arith}
+use lib.ListN.{drop, length, take}
+use Rattle.model.specs.Places.{all}
+use Rattle.lists.proofs.Turns.{all_ends, all_goes, all_stops, passed, refused}
+use Rattle.rowrules.specs.Kept.{row_kept}
+use Rattle.rowrules.proofs.RowLaws.{rows_small}
+use borrow.Author.Rules.{rules}
+use Rattle.rowrules.proofs.rows_ok.Given as goal
+
+abbrev pub invariant-loop-i : goal.invariant-loop-i
+invariant-loop-i l = all (row_kept l.bs l.ks) (drop l.i (take l.n l.l)) ≡ all (row_kept l.bs l.ks) (take l.count l.l)
+
+abbrev pub decreases-loop-i : goal.decreases-loop-i
+decreases-loop-i l = l.n - l.i

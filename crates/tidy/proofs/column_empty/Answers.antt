@@ -1,0 +1,9 @@
+-- `tidy::column_empty` is the definition of an empty column.
+-- Assumes nothing.
+use borrow.Author.Rules.{rules}
+use Rattle.store.specs.Canonical.{column_empty}
+use Rattle.tidy.proofs.column_empty.Goals as goal
+
+pub returns : goal.returns
+unfolding column_empty
+returns c = cc

@@ -1,0 +1,9 @@
+-- `tidy::column_tidy` is the definition of a tidy column.
+-- Assumes nothing.
+use borrow.Author.Rules.{rules}
+use Rattle.store.specs.Canonical.{column_tidy}
+use Rattle.tidy.proofs.column_tidy.Goals as goal
+
+pub returns : goal.returns
+unfolding column_tidy
+returns c = cc

@@ -1,0 +1,9 @@
+-- `tidy::field_tidy` is the definition of a tidy field.
+-- Assumes nothing.
+use borrow.Author.Rules.{rules}
+use Rattle.store.specs.Canonical.{field_tidy}
+use Rattle.tidy.proofs.field_tidy.Goals as goal
+
+pub returns : goal.returns
+unfolding field_tidy
+returns c = cc

@@ -1,0 +1,17 @@
+-- `tidy::fields_tidy` tests all pairs of two arrays: the loop speaks of what is left.
+-- Assumes nothing.
+use mathlib.Core.Path.{◌≡◌}
+use Prim.Native.Nat.{◌-◌}
+use native.Mathlib.Omega.{arith}
+use lib.ListN.{length, take, drop}
+use borrow.Author.Rules.{rules}
+use Rattle.lists.specs.Folds.{all_pairs}
+use Rattle.lists.proofs.Turns.{refused, passed, pairs_start, pairs_stop, pairs_go, pairs_end}
+use Rattle.store.specs.Canonical.{field_tidy}
+use Rattle.tidy.proofs.fields_tidy.Given as goal
+
+abbrev pub invariant-loop-i : goal.invariant-loop-i
+invariant-loop-i l = all_pairs field_tidy (drop l.i (take 8 l.ks)) (drop l.i (take 8 l.l)) ≡ all_pairs field_tidy l.ks l.l
+
+abbrev pub decreases-loop-i : goal.decreases-loop-i
+decreases-loop-i l = 8 - l.i

@@ -1,0 +1,9 @@
+-- `tidy::row_tidy` is the definition of a tidy row.
+-- Assumes nothing.
+use borrow.Author.Rules.{rules}
+use Rattle.store.specs.Canonical.{row_tidy}
+use Rattle.tidy.proofs.row_tidy.Goals as goal
+
+pub returns : goal.returns
+unfolding row_tidy
+returns c = cc
