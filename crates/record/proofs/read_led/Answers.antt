@@ -43,7 +43,7 @@ pub returns-in_default : goal.returns-in_default
 unfolding part_in
 returns-in_default c =
     let A = c.args in
-    let n = c.in_default.rest in
+    let n = c.in_default.in_default-own.rest in
     c.bare-in_default.ensures
     ∙ led-none A.letter (fields_at 9 A.s.now A.at)
     (rw (ne_eqb _ _ n.0.0.0.0.0.1, ne_eqb _ _ n.0.0.0.0.1, ne_eqb _ _ n.0.0.0.1, ne_eqb _ _ n.0.0.1, ne_eqb _ _ n.0.1, ne_eqb _ _ n.1))

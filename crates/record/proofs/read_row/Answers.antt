@@ -27,6 +27,4 @@ pub returns : goal.returns
 unfolding read_by
 returns c =
     let s = c.args.s.now in
-    let n = c.d-1.given.0 in
-    let k = c.k-1.given.0 in
-    c.read_fields.ensures ∙ rw (both_then, sym c.table_at.ensures ∙ ap (table_to s) c.in-To.is, then_by, sym c.class_at.ensures ∙ ap (class_to s) c.in-To-class_at.is) (few-row n.0 n.1.0 k.0 (read_fields 8 (fields_at 9 s k.1.0)))
+    c.read_fields.ensures ∙ rw (both_then, sym c.table_at.ensures ∙ ap (table_to s) c.in-To.is, then_by, sym c.class_at.ensures ∙ ap (class_to s) c.in-To-class_at.is) (few-row c.in-To.d c.in-To.t c.in-To-class_at.k (read_fields 8 (fields_at 9 s c.in-To-class_at.q)))

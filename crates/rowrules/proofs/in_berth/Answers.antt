@@ -1,7 +1,6 @@
 -- What is counted and what is yet to be counted is the count.
 -- Assumes nothing.
 use mathlib.Core.Path.{◌∙◌, ◌≡◌, ap, sym}
-use mathlib.Core.Logic.{⊎_elim}
 use Prim.Native.Nat.{◌+◌, ◌-◌, ◌<◌, ◌≤◌}
 use native.Mathlib.Omega.{arith}
 use lib.ListN.{drop, length, take}
@@ -11,6 +10,7 @@ use Rattle.rowrules.specs.Kept.{of_berth}
 use Rattle.rowrules.proofs.RowLaws.{rows_small}
 use borrow.Author.Rules.{rules}
 use Rattle.rowrules.proofs.in_berth.Goals as goal
+use Rattle.rowrules.proofs.in_berth.Goals.{then-same_class, else-same_class}
 
 pub loop-i-init : goal.loop-i-init
 loop-i-init c =
@@ -31,10 +31,10 @@ loop-i-preserved c =
     let hl : length a.l ≡ 32 = rows_long in
     let hi : i < n = c.loop-i-test.true in
     let hn : n ≤ length a.l = omega arith in
-    ⊎_elim
-    (λ w. let e = count_yes (of_berth a.c) a.l n hn i _ hi (sym c.same_class.ensures ∙ w.0.taken) in omega (arith, e))
-    (λ w. let e = count_no (of_berth a.c) a.l n hn i _ hi (sym c.same_class.ensures ∙ w.0.left) in omega (arith, e))
-    c.if-same_class.branch
+    elim c.if-same_class.branch
+    [ then-same_class w ↦ (let e = count_yes (of_berth a.c) a.l n hn i _ hi (sym c.same_class.ensures ∙ w.if-same_class.true) in omega (arith, e))
+    | else-same_class w ↦ (let e = count_no (of_berth a.c) a.l n hn i _ hi (sym c.same_class.ensures ∙ w.if-same_class.false) in omega (arith, e))
+    ]
 
 pub returns : goal.returns
 returns c =
