@@ -1,0 +1,23 @@
+-- The two tables of a directory that is there.
+-- Assumes nothing.
+use mathlib.Core.Path.{◌∙◌, ◌≡◌}
+use mathlib.Core.Bool.{◌&&◌}
+use lib.ListN.{length}
+use Rattle.model.specs.Rules.{directory_ok}
+use Rattle.lists.proofs.Loops.{long}
+use Rattle.lists.proofs.Chains.{chain-all}
+use Rattle.store.specs.Packed.{directory_of}
+use Rattle.store.specs.Numbered.{past_table}
+use Rattle.rules.specs.Kept.{table_kept}
+use Rattle.rowrules.proofs.PartLaws.{here}
+use Rattle.rules.proofs.TableLaws.{directory-ruled}
+use borrow.Author.Rules.{rules}
+use Rattle.rules.proofs.directory_ok.Goals as goal
+
+pub returns : goal.returns
+returns c =
+    let tables_long : length c.args.d.tables ≡ 2 = search long in
+    let s = c in
+    let d = s.args.d in
+    here d.there (directory_ok (directory_of d)) _ c.if-not-d.false-raw
+    ((λ i. c.table_ok.ensures i && c.table_ok-2.ensures i) ∙ chain-all table_kept d.tables past_table 2 h ∙ directory-ruled d h)
