@@ -19,5 +19,6 @@ returns c =
     let tables_long : length c.args.d.tables ≡ 2 = search long in
     let s = c in
     let d = s.args.d in
+    let h = tables_long in
     here d.there (directory_ok (directory_of d)) _ c.if-not-d.false-raw
     ((λ i. c.table_ok.ensures i && c.table_ok-2.ensures i) ∙ chain-all table_kept d.tables past_table 2 h ∙ directory-ruled d h)

@@ -15,5 +15,6 @@ pub returns : goal.returns
 returns c =
     let dirs_long : length c.args.s.dirs ≡ 4 = search long in
     let s = c in
+    let h = dirs_long in
     (λ i. ((c.directory_plain.ensures i && c.directory_plain-2.ensures i) && c.directory_plain-3.ensures i) && c.directory_plain-4.ensures i)
     ∙ chain-all directory_shown s.args.s.dirs past_directory 4 h ∙ store-shown s.args.s

@@ -1,0 +1,19 @@
+-- What is left of the tables is left to be written.
+-- Assumes nothing.
+use mathlib.Core.Path.{◌≡◌, refl}
+use Prim.Native.Nat.{◌-◌, ◌≤◌}
+use native.Mathlib.Omega.{arith}
+use lib.ListN.{drop, get_or, length}
+use borrow.Author.Rules.{rules}
+use Rattle.room.proofs.EachLaws.{each_done, each_turn}
+use Rattle.room.proofs.RoomLaws.{Left, left-all}
+use Rattle.room.specs.Writing.{each}
+use Rattle.store.specs.Numbered.{past_table}
+use Rattle.writer.specs.Texts.{table_text}
+use Rattle.writer.proofs.put_tables.Given as goal
+
+abbrev pub invariant-loop-i : goal.invariant-loop-i
+invariant-loop-i l = (l.i ≤ 2) × (length l.tables ≡ 2) × Left l.initial.room l.at (each (table_text l.d) 0 l.tables) l.p l.room (each (table_text l.d) l.i (drop l.i l.tables))
+
+abbrev pub decreases-loop-i : goal.decreases-loop-i
+decreases-loop-i l = 2 - l.i
