@@ -5,17 +5,13 @@ use Rattle.lists.specs.Pad.{pad}
 use Rattle.store.specs.Packed.{packed_berth, packed_column, packed_group, packed_table}
 use Rattle.view.specs.Seen.{shut_at}
 use borrow.Author.Rules.{rules}
-use Rattle.view.proofs.shut_table.Statement.{statement}
-use Rattle.view.proofs.shut_table.Tie as tie
+use Rattle.view.proofs.shut_table.Goals as goal
 
-no-table-requires : tie.Need-no-table-requires
-no-table-requires c κs = search rules
-
-returns : tie.Need-returns
+pub returns : goal.returns
 unfolding shut_at packed_table packed_berth packed_group packed_column pad
 returns c =
-    let k = c.before.before.before.args.t.class in
-    let e = c.no_table.ensures in
+    let k = c.args.t.class in
+    let e = c.no_table-q.ensures in
     λ i. record {
       there = true;
       class = k;
@@ -26,6 +22,3 @@ returns c =
       count = (e i).count;
       rows = (e i).rows;
     }
-
-pub shut-table-spec : {M : Type 1} → statement M
-shut-table-spec = tie.close (tie.spec no-table-requires returns)
