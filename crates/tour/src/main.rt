@@ -4,6 +4,7 @@
 use field::is_hidden;
 use model::{Class, Field, Kind, Reply, Value};
 use rules::{keeps_rules, keeps_sheet};
+use std::io;
 use std::num::wrapping_add_u32;
 use store::{
     Berth, Column, Directory, Group, Row, Store, Table, no_berth, no_column, no_directory,
@@ -315,80 +316,71 @@ fn count(s: Store) -> Tally {
 }
 
 // ---- printing
-fn print_part(name: &[u8], n: u32) {
-    io::write_all(1, name);
-    io::print_decimal(1, n as u64);
+fn print_part(rt: &impl Print, name: &str, n: u32) -> io::Result<()> {
+    print!(rt; "{name}{n}")
 }
 
-fn print_tally(a: Tally) {
-    print_part(b" directories ", a.directories);
-    print_part(b", tables ", a.tables);
-    print_part(b", berths ", a.berths);
-    print_part(b", groups ", a.groups);
-    print_part(b", columns ", a.columns);
-    print_part(b", rows ", a.rows);
-    print_part(b", hidden fields ", a.hidden);
-    io::write_all(1, b"\n");
+fn print_tally(rt: &impl Print, a: Tally) -> io::Result<()> {
+    print_part(rt, " directories ", a.directories)?;
+    print_part(rt, ", tables ", a.tables)?;
+    print_part(rt, ", berths ", a.berths)?;
+    print_part(rt, ", groups ", a.groups)?;
+    print_part(rt, ", columns ", a.columns)?;
+    print_part(rt, ", rows ", a.rows)?;
+    print_part(rt, ", hidden fields ", a.hidden)?;
+    println!(rt; "")
 }
 
-fn print_reply(r: Reply) {
+fn print_reply(rt: &impl Print, r: Reply) -> io::Result<()> {
     match r {
-        Reply::Done => {
-            io::write_all(1, b" 0:");
-        }
-        Reply::RuleBroken => {
-            io::write_all(1, b" 21:");
-        }
-        _ => {
-            io::write_all(1, b" another reply:");
-        }
+        Reply::Done => print!(rt; " 0:"),
+        Reply::RuleBroken => print!(rt; " 21:"),
+        _ => print!(rt; " another reply:"),
     }
 }
 
 // What a clearance sees of a store.
-fn look(level: u8, marks: u32, s: Store) {
-    io::write_all(1, b"  at ");
-    io::print_decimal(1, level as u64);
-    io::print_hex(1, marks as u64, 8);
+fn look(rt: &impl Print, level: u8, marks: u32, s: Store) -> io::Result<()> {
+    print!(rt; "  at {level}{marks:08x}")?;
     let v = view_at(class(level, marks), s);
     let reply = v.reply;
     let seen = v.store;
-    print_reply(reply);
-    print_tally(count(seen));
+    print_reply(rt, reply)?;
+    print_tally(rt, count(seen))
 }
 
-fn judge(name: &[u8], s: Store) {
-    io::write_all(1, name);
+fn judge(rt: &impl Print, name: &str, s: Store) -> io::Result<()> {
+    print!(rt; "{name}")?;
     if keeps_rules(s) {
-        io::write_all(1, b": keeps the rules");
+        print!(rt; ": keeps the rules")?;
     } else {
-        io::write_all(1, b": breaks a rule");
+        print!(rt; ": breaks a rule")?;
     }
     if keeps_sheet(s) {
-        io::write_all(1, b", may stand under SHEET\n");
+        println!(rt; ", may stand under SHEET")
     } else {
-        io::write_all(1, b", may not stand under SHEET\n");
+        println!(rt; ", may not stand under SHEET")
     }
 }
 
-fn show(name: &[u8], s: Store) {
-    judge(name, s);
-    look(3, 15, s);
-    look(1, 1, s);
-    look(1, 2, s);
-    look(0, 0, s);
+fn show(rt: &impl Print, name: &str, s: Store) -> io::Result<()> {
+    judge(rt, name, s)?;
+    look(rt, 3, 15, s)?;
+    look(rt, 1, 1, s)?;
+    look(rt, 1, 2, s)?;
+    look(rt, 0, 0, s)
 }
 
-fn main() {
+fn main(rt: HostRuntime) -> io::Result<()> {
     let e = example_with(2);
-    show(b"the example", e);
+    show(&rt, "the example", e)?;
     let seen = view_at(class(1, 1), e);
     let v = seen.store;
-    show(b"its view at 1 00000001", v);
+    show(&rt, "its view at 1 00000001", v)?;
     let f = full(false);
-    show(b"a full store", f);
+    show(&rt, "a full store", f)?;
     let c = full(true);
-    show(b"nine rows in a berth", c);
+    show(&rt, "nine rows in a berth", c)?;
     let u = example_with(1);
-    show(b"a row behind the count", u);
+    show(&rt, "a row behind the count", u)
 }

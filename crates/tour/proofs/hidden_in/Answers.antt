@@ -1,0 +1,17 @@
+-- The loop stays within its array, and ends.
+-- Assumes nothing.
+use Rattle.std.proofs.Common.{◌-◌, rules}
+use Rattle.tour.proofs.hidden_in.Reads as reads
+use Rattle.tour.proofs.hidden_in.Lts as lts
+use Rattle.field.proofs.is_hidden.Reads as is_hidden_reads
+use Rattle.tour.proofs.add.Reads as add_reads
+use Rattle.tour.proofs.hidden_in.Goals as goal
+
+pub loop-j-init : goal.loop-j-init
+loop-j-init c = tt
+
+pub loop-j-preserved : goal.loop-j-preserved
+loop-j-preserved c = tt
+
+pub returns : goal.returns
+returns c = tt
