@@ -22,12 +22,14 @@ returns-in-84 c =
 pub returns-in-66 : goal.returns-in-66
 returns-in-66 c =
     let A = c.args in
-    c.bare-in-66.ensures ∙ c.read_berth.ensures ∙ led-other B A.letter (fields_at 9 A.s.now A.at) refl (rw c.in-66.is)
+    let e = led-other B A.letter (fields_at 9 A.s.now A.at) refl (rw c.in-66.is) in
+    cc
 
 pub returns-in-71 : goal.returns-in-71
 returns-in-71 c =
     let A = c.args in
-    c.bare-in-71.ensures ∙ c.read_group.ensures ∙ led-other G A.letter (fields_at 9 A.s.now A.at) refl (rw c.in-71.is)
+    let e = led-other G A.letter (fields_at 9 A.s.now A.at) refl (rw c.in-71.is) in
+    cc
 
 pub returns-in-67 : goal.returns-in-67
 returns-in-67 c =
