@@ -13,14 +13,11 @@ use Rattle.model.specs.declared.Value.TheVariants.{Blank, Classed, Count, Hidden
 use Rattle.model.specs.Places.{at, nth}
 use Rattle.model.specs.Parts.{Column, Row, Store, Table, table_at}
 use Rattle.model.specs.Rules.{rules}
-use Rattle.model.specs.View.{seen, view}
+use Rattle.model.specs.View.{view}
 use Rattle.model.specs.Numbers.{Bytes}
-use Rattle.model.specs.Lines.{whole}
-use Rattle.model.specs.Records.{berth}
 use Rattle.model.specs.Sheets.{Heading, may_stand, read_sheet, sheet_text}
 use Rattle.model.specs.Commands.{Action, Change, Command, Condition, Given, Line, New, command, delete, insert, new_class, new_field, new_value, nobodys, select, unformed, update}
 use Rattle.model.specs.Answers.{answer, answer_text}
-use Rattle.model.specs.Checks.{own}
 
 -- ---- lists and places
 module _ {A : Type 0} where

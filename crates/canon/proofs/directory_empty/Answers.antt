@@ -3,7 +3,6 @@
 use mathlib.Core.Path.{◌≡◌, ◌∙◌}
 use mathlib.Core.Bool.{◌&&◌}
 use lib.ListN.{length}
-use borrow.Author.Rules.{rules}
 use Rattle.lists.proofs.Chains.{chain-all, chain-conj}
 use Rattle.lists.proofs.Loops.{long}
 use Rattle.store.specs.Canonical.{directory_empty, table_away}

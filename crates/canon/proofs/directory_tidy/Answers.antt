@@ -5,7 +5,6 @@ use mathlib.Core.Bool.{◌&&◌, ◌||◌}
 use lib.Dec.{eqb}
 use lib.ListN.{length}
 use borrow.Author.Tests.{eq-eqb}
-use borrow.Author.Rules.{rules}
 use Rattle.model.specs.Places.{conj}
 use Rattle.lists.proofs.Loops.{long}
 use Rattle.lists.proofs.Chains.{chain-all, chain-conj, and-sure}

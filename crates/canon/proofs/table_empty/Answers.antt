@@ -3,7 +3,6 @@
 use mathlib.Core.Path.{◌∙◌}
 use mathlib.Core.Bool.{◌&&◌}
 use lib.Dec.{eqb}
-use borrow.Author.Rules.{rules}
 use Rattle.lists.proofs.Chains.{chain-conj}
 use Rattle.store.specs.Canonical.{table_empty}
 use Rattle.canon.proofs.table_empty.Goals as goal

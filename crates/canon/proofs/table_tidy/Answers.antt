@@ -3,7 +3,6 @@
 use mathlib.Core.Path.{◌∙◌}
 use mathlib.Core.Bool.{◌&&◌, ◌||◌}
 use lib.Dec.{leb}
-use borrow.Author.Rules.{rules}
 use Rattle.model.specs.Places.{conj}
 use Rattle.lists.proofs.Loops.{long}
 use Rattle.lists.proofs.Chains.{chain, chain-conj, and-sure}

@@ -1,7 +1,6 @@
 -- The berth's line where it is there, and else nothing.
 -- Assumes nothing.
 use native.Mathlib.Omega.{arith}
-use borrow.Author.Rules.{rules}
 use Rattle.model.specs.Records.{berth}
 use Rattle.model.specs.Sheets.{letter_byte, part_fields, record_fields, record_line, table_fields}
 use Rattle.room.proofs.EachLaws.{wrote_no, wrote_yes}

@@ -1,7 +1,6 @@
 -- The column's line where it is there, and else nothing.
 -- Assumes nothing.
 use native.Mathlib.Omega.{arith}
-use borrow.Author.Rules.{rules}
 use Rattle.model.specs.Records.{column}
 use Rattle.room.proofs.EachLaws.{wrote_no, wrote_yes}
 use Rattle.store.specs.Packed.{column_of}

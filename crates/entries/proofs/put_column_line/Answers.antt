@@ -1,6 +1,5 @@
 -- The head, the two numbers, the kind and the default.
 -- Assumes nothing.
-use borrow.Author.Rules.{rules}
 use Rattle.model.specs.Sheets.{letter_byte, part_fields, record_fields, record_line, table_fields}
 use Rattle.model.specs.Texts.{field_texts}
 use Rattle.store.specs.Packed.{column_of}

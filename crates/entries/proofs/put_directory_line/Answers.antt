@@ -1,6 +1,5 @@
 -- The letter, the number and two classes.
 -- Assumes nothing.
-use borrow.Author.Rules.{rules}
 use Rattle.model.specs.Sheets.{letter_byte, part_fields, record_fields, record_line, table_fields}
 use Rattle.entries.proofs.TabLaws.{◌tab◌, begun, feed}
 use Rattle.entries.specs.Lines.{line_in}

@@ -1,14 +1,10 @@
 -- What is left of the fields is left to be written.
 -- Assumes nothing.
-use mathlib.Core.Path.{◌≡◌}
-use Prim.Native.Nat.{◌-◌, ◌≤◌}
 use native.Mathlib.Omega.{arith}
-use lib.ListN.{drop, length}
 use borrow.Author.Rules.{rules}
-use Rattle.room.proofs.RoomLaws.{Left, left-all}
+use Rattle.room.proofs.RoomLaws.{left-all}
 use Rattle.store.specs.Packed.{no_column, no_field}
 use Rattle.entries.proofs.FieldLaws.{fields-end, fields-turn}
-use Rattle.entries.specs.Lines.{fields_text}
 use Rattle.entries.proofs.put_fields.Goals as goal
 
 pub loop-i-init : goal.loop-i-init

@@ -2,12 +2,8 @@
 -- Assumes nothing.
 use mathlib.Core.Path.{◌≡◌}
 use Prim.Native.Nat.{◌-◌, ◌≤◌}
-use native.Mathlib.Omega.{arith}
 use lib.ListN.{drop, length}
-use borrow.Author.Rules.{rules}
-use Rattle.room.proofs.RoomLaws.{Left, left-all}
-use Rattle.store.specs.Packed.{no_column, no_field}
-use Rattle.entries.proofs.FieldLaws.{fields-end, fields-turn}
+use Rattle.room.proofs.RoomLaws.{Left}
 use Rattle.entries.specs.Lines.{fields_text}
 use Rattle.entries.proofs.put_fields.Given as goal
 

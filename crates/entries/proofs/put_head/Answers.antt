@@ -1,6 +1,5 @@
 -- The letter, then the two numbers.
 -- Assumes nothing.
-use borrow.Author.Rules.{rules}
 use Rattle.entries.proofs.TabLaws.{◌tab◌, begun}
 use Rattle.entries.specs.Lines.{head_text}
 use Rattle.entries.proofs.put_head.Goals as goal

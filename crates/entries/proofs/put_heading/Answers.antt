@@ -1,6 +1,5 @@
 -- The heading's bytes.
 -- Assumes nothing.
-use borrow.Author.Rules.{rules}
 use Rattle.model.specs.Sheets.{heading_text}
 use Rattle.entries.proofs.put_heading.Goals as goal
 

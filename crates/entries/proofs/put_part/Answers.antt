@@ -1,6 +1,5 @@
 -- The head, the number and the class.
 -- Assumes nothing.
-use borrow.Author.Rules.{rules}
 use Rattle.entries.proofs.TabLaws.{◌tab◌, feed, lined}
 use Rattle.entries.specs.Lines.{head_text, part_text}
 use Rattle.entries.proofs.put_part.Goals as goal

@@ -1,7 +1,6 @@
 -- The head, the existence class and the fields.
 -- Assumes nothing.
 use mathlib.Core.List.{zip_with}
-use borrow.Author.Rules.{rules}
 use Rattle.model.specs.Places.{filled}
 use Rattle.model.specs.Records.{row_record}
 use Rattle.model.specs.Sheets.{letter_byte, part_fields, record_fields, record_line, table_fields}

@@ -1,7 +1,6 @@
 -- The field where its column is there, and else nothing.
 -- Assumes nothing.
 use native.Mathlib.Omega.{arith}
-use borrow.Author.Rules.{rules}
 use Rattle.room.proofs.EachLaws.{wrote_no, wrote_yes}
 use Rattle.field.specs.Writing.{field_text}
 use Rattle.entries.proofs.put_shown.Goals as goal

@@ -1,6 +1,5 @@
 -- The tab, then the number.
 -- Assumes nothing.
-use borrow.Author.Rules.{rules}
 use Rattle.room.proofs.RoomLaws.{◌then◌}
 use Rattle.entries.proofs.tab_dec.Goals as goal
 

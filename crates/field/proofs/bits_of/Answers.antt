@@ -3,7 +3,6 @@
 use mathlib.Core.Path.{sym, ◌∙◌}
 use Rattle.model.proofs.Tests.{to_T}
 use Rattle.field.proofs.RateLaws.{no_number}
-use borrow.Author.Rules.{rules}
 use Rattle.field.proofs.bits_of.Goals as goal
 
 pub float_to_bits-result : goal.float_to_bits-result

@@ -2,7 +2,6 @@
 -- Assumes nothing.
 use mathlib.Core.Bool.{◌&&◌}
 use Rattle.model.specs.Values.{field_sound}
-use borrow.Author.Rules.{rules}
 use Rattle.field.proofs.field_sound.Goals as goal
 
 pub returns : goal.returns

@@ -4,7 +4,6 @@ use mathlib.Core.Bool.{◌||◌}
 use Prim.Native.Char.{code}
 use lib.Dec.{eqb}
 use Rattle.model.specs.Values.{fits}
-use borrow.Author.Rules.{rules}
 use Rattle.field.proofs.fits_kind.Goals as goal
 
 pub returns : goal.returns

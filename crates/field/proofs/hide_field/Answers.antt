@@ -2,7 +2,6 @@
 -- Assumes nothing.
 use mathlib.Core.Path.{sym, ◌∙◌}
 use Rattle.model.specs.Values.{hide}
-use borrow.Author.Rules.{rules}
 use Rattle.field.proofs.hide_field.Goals as goal
 
 pub returns-then-dominates : goal.returns-then-dominates

@@ -3,7 +3,6 @@
 use Prim.Native.Char.{code}
 use lib.Dec.{eqb}
 use Rattle.model.specs.Values.{is_hidden}
-use borrow.Author.Rules.{rules}
 use Rattle.field.proofs.is_hidden.Goals as goal
 
 pub returns : goal.returns

@@ -1,7 +1,6 @@
 -- `field::meets_value` is what a condition asks of a value.
 -- Assumes nothing.
 use mathlib.Core.Bool.{not, ◌&&◌}
-use borrow.Author.Rules.{rules}
 use Rattle.field.proofs.meets_value.Goals as goal
 
 pub returns : goal.returns

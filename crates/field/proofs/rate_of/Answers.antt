@@ -2,7 +2,6 @@
 -- Assumes nothing.
 use mathlib.Core.Path.{sym, ◌∙◌}
 use Rattle.model.specs.Values.{rate_of}
-use borrow.Author.Rules.{rules}
 use Rattle.field.proofs.rate_of.Goals as goal
 
 pub returns-then-nan_bits : goal.returns-then-nan_bits

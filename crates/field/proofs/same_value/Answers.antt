@@ -3,7 +3,6 @@
 use mathlib.Core.Bool.{◌&&◌}
 use lib.Dec.{eqb}
 use Rattle.model.specs.Values.{same_value}
-use borrow.Author.Rules.{rules}
 use Rattle.field.proofs.same_value.Goals as goal
 
 pub returns : goal.returns

@@ -1,7 +1,6 @@
 -- No fields are counted.
 -- Assumes nothing.
 use mathlib.Core.Path.{refl}
-use borrow.Author.Rules.{rules}
 use Rattle.record.specs.Records.{record_in}
 use Rattle.record.proofs.bare.Goals as goal
 

@@ -1,7 +1,6 @@
 -- What the line of berths and groups has, as a berth.
 -- Assumes nothing.
 use mathlib.Core.Path.{◌∙◌, ap, sym}
-use borrow.Author.Rules.{rules}
 use Rattle.model.specs.Sheets.{read_by}
 use Rattle.record.specs.Records.{part_in, slot_in}
 use Rattle.record.proofs.read_berth.Goals as goal

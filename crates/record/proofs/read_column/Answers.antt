@@ -1,7 +1,6 @@
 -- Four numbers, a kind, and a class and a value as the last.
 -- Assumes nothing.
 use mathlib.Core.Path.{◌∙◌, ap, sym}
-use borrow.Author.Rules.{rules}
 use Rattle.model.specs.Sheets.{read_by}
 use Rattle.steps.specs.Steps.{kind_to, num_to, pair_in, table_to}
 use Rattle.steps.proofs.FormLaws.{both_then, then_by}

@@ -1,7 +1,6 @@
 -- A number, a class, and a class as the last.
 -- Assumes nothing.
 use mathlib.Core.Path.{◌∙◌, ap, sym}
-use borrow.Author.Rules.{rules}
 use Rattle.model.specs.Sheets.{read_by}
 use Rattle.class.specs.Reading.{class_in}
 use Rattle.steps.specs.Steps.{class_to, num_to}

@@ -1,19 +1,17 @@
 -- As many as were counted stand first in the array. Each turn reads one more; the line ends, or what is left is no field, or too much.
 -- Assumes nothing.
-use mathlib.Core.Path.{◌∙◌, ◌≡◌, ap, refl, sym}
+use mathlib.Core.Path.{◌∙◌, ap, refl, sym}
 use mathlib.Core.List.{List}
 use mathlib.Core.Option.{Option}
-use Prim.Native.Nat.{◌-◌, ◌≤◌}
 use native.Mathlib.Omega.{arith}
-use lib.ListN.{length, length-set}
-use borrow.Author.Rules.{rules}
+use lib.ListN.{length-set}
 use Rattle.model.specs.declared.Field.{Field}
 use Rattle.model.specs.Places.{and_then}
 use Rattle.model.specs.Texts.{read_fields}
 use Rattle.text.specs.Fields.{fields_at}
 use Rattle.steps.specs.Steps.{field_to}
 use Rattle.record.specs.Records.{eight, part_in, record_in}
-use Rattle.record.proofs.RowLaws.{Left, row_ends, row_goes, row_starts, row_stops, row-wide}
+use Rattle.record.proofs.RowLaws.{row_ends, row_goes, row_starts, row_stops, row-wide}
 use Rattle.record.proofs.read_fields.Goals as goal
 
 pub loop-place-init : goal.loop-place-init

@@ -2,7 +2,6 @@
 -- Assumes nothing.
 use mathlib.Core.Path.{◌∙◌, refl}
 use borrow.Author.Tests.{ne_eqb}
-use borrow.Author.Rules.{rules}
 use Rattle.model.specs.Sheets.{B, C, D, G, T}
 use Rattle.text.specs.Fields.{fields_at}
 use Rattle.record.specs.Records.{part_in}

@@ -3,7 +3,6 @@
 use mathlib.Core.Path.{◌∙◌, refl}
 use native.Mathlib.Omega.{arith}
 use lib.ListN.{length}
-use borrow.Author.Rules.{rules}
 use Rattle.text.specs.Fields.{behind}
 use Rattle.record.specs.Records.{part_in}
 use Rattle.record.proofs.FewLaws.{line-led, line-none}

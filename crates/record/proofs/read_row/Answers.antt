@@ -1,7 +1,6 @@
 -- Two numbers, a class, and the fields.
 -- Assumes nothing.
 use mathlib.Core.Path.{◌∙◌, ap, sym}
-use borrow.Author.Rules.{rules}
 use Rattle.model.specs.Sheets.{read_by}
 use Rattle.model.specs.Texts.{read_fields}
 use Rattle.text.specs.Fields.{fields_at}

@@ -1,7 +1,6 @@
 -- Three numbers, and a class as the last.
 -- Assumes nothing.
 use mathlib.Core.Path.{◌∙◌, ap, sym}
-use borrow.Author.Rules.{rules}
 use Rattle.class.specs.Reading.{class_in}
 use Rattle.steps.specs.Steps.{num_to, table_to}
 use Rattle.steps.proofs.FormLaws.{both_then, then_by}

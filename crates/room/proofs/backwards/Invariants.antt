@@ -1,15 +1,10 @@
 -- n digits are made, and those of `rest` are left: there are twenty at most.
 -- Assumes nothing.
-use mathlib.Core.Path.{◌∙◌, ◌≡◌, ap, sym}
-use Prim.Native.Nat.{◌%◌, ◌+◌, ◌/◌, ◌^◌, ◌≤◌, ℕ}
-use native.Mathlib.Nat.{div-one}
-use native.Mathlib.Omega.{arith}
-use lib.ListN.{length, length-set}
-use borrow.Author.Rules.{rules}
-use Rattle.model.specs.Numbers.{digit_byte, digits, places}
-use Rattle.model.proofs.NumberLaws.{places_small}
+use mathlib.Core.Path.{◌≡◌}
+use Prim.Native.Nat.{◌+◌, ◌/◌, ◌^◌, ◌≤◌}
+use lib.ListN.{length}
+use Rattle.model.specs.Numbers.{digits, places}
 use Rattle.room.specs.Turned.{turned}
-use Rattle.room.proofs.DigitLaws.{dec_digits, places_big, places-most, places-some, rest_more, turned_digit, turned_none}
 use Rattle.room.proofs.backwards.Given as goal
 
 abbrev pub invariant-loop-rest : goal.invariant-loop-rest

@@ -2,13 +2,12 @@
 -- Assumes nothing.
 use mathlib.Core.Path.{◌≡◌}
 use mathlib.Core.List.{[], ◌∷◌}
-use Prim.Native.Nat.{◌+◌, ◌-◌, ◌≤◌}
+use Prim.Native.Nat.{◌+◌, ◌≤◌}
 use native.Mathlib.Numerals.{add-one}
 use native.Mathlib.Omega.{arith}
 use lib.ListN.{drop, drop_of_length-le, get_or, length}
 use lib.Seq.{drop-cons}
-use borrow.Author.Rules.{rules}
-use Rattle.room.proofs.RoomLaws.{Left, left-all, left_less, left-none}
+use Rattle.room.proofs.RoomLaws.{left-all, left_less, left-none}
 use Rattle.room.proofs.put.Goals as goal
 
 pub loop-i-init : goal.loop-i-init

@@ -3,7 +3,6 @@
 use mathlib.Core.Path.{sym}
 use native.Mathlib.Omega.{arith}
 use lib.Seq.{set_out}
-use borrow.Author.Rules.{rules}
 use Rattle.room.proofs.put_byte.Goals as goal
 
 pub returns : goal.returns

@@ -2,14 +2,12 @@
 -- Assumes nothing.
 use mathlib.Core.Path.{◌≡◌}
 use mathlib.Core.List.{[], ◌∷◌}
-use Prim.Native.Nat.{◌-◌, ◌≤◌}
+use Prim.Native.Nat.{◌-◌}
 use native.Mathlib.Omega.{arith}
 use lib.ListN.{get_or}
-use borrow.Author.Rules.{rules}
-use Rattle.model.specs.Numbers.{dec_text}
 use Rattle.room.specs.Turned.{turned}
 use Rattle.room.proofs.DigitLaws.{turned-next}
-use Rattle.room.proofs.RoomLaws.{Left, left-all, left_less, left-none}
+use Rattle.room.proofs.RoomLaws.{left-all, left_less, left-none}
 use Rattle.room.proofs.put_dec.Goals as goal
 
 pub loop-k-init : goal.loop-k-init

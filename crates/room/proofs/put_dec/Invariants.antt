@@ -1,15 +1,9 @@
 -- The first k bytes are left to be written, turned round.
 -- Assumes nothing.
-use mathlib.Core.Path.{◌≡◌}
-use mathlib.Core.List.{[], ◌∷◌}
-use Prim.Native.Nat.{◌-◌, ◌≤◌}
-use native.Mathlib.Omega.{arith}
-use lib.ListN.{get_or}
-use borrow.Author.Rules.{rules}
+use Prim.Native.Nat.{◌≤◌}
 use Rattle.model.specs.Numbers.{dec_text}
 use Rattle.room.specs.Turned.{turned}
-use Rattle.room.proofs.DigitLaws.{turned-next}
-use Rattle.room.proofs.RoomLaws.{Left, left-all, left_less, left-none}
+use Rattle.room.proofs.RoomLaws.{Left}
 use Rattle.room.proofs.put_dec.Given as goal
 
 abbrev pub invariant-loop-k : goal.invariant-loop-k

@@ -4,10 +4,9 @@ use mathlib.Core.Path.{◌∙◌, ◌≡◌, ap, sym}
 use mathlib.Core.List.{[], ◌∷◌}
 use Prim.Native.Nat.{◌%◌, ◌-◌, ◌/◌, ◌^◌, ℕ}
 use native.Mathlib.Omega.{arith}
-use borrow.Author.Rules.{rules}
 use Rattle.model.specs.Numbers.{digit_byte, digits}
 use Rattle.room.proofs.DigitLaws.{digits-next}
-use Rattle.room.proofs.RoomLaws.{Left, left-all, left_less, left-none}
+use Rattle.room.proofs.RoomLaws.{left-all, left_less, left-none}
 use Rattle.room.proofs.put_hex.Goals as goal
 
 pub loop-k-init : goal.loop-k-init

@@ -3,7 +3,6 @@
 use mathlib.Core.Path.{ap, sym}
 use Prim.Native.Nat.{◌/◌, ℕ}
 use native.Mathlib.Omega.{arith}
-use borrow.Author.Rules.{rules}
 use Rattle.room.proofs.DigitLaws.{no_digits, pow_16}
 use Rattle.room.proofs.without.Goals as goal
 

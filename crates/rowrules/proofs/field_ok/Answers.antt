@@ -3,7 +3,6 @@
 use mathlib.Core.Path.{◌∙◌}
 use mathlib.Core.Bool.{◌||◌, not}
 use Rattle.rowrules.proofs.RowLaws.{field_kept_lem}
-use borrow.Author.Rules.{rules}
 use Rattle.rowrules.proofs.field_ok.Goals as goal
 
 pub returns : goal.returns

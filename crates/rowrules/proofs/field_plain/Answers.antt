@@ -2,7 +2,6 @@
 -- Assumes nothing.
 use mathlib.Core.Bool.{◌||◌, not}
 use Rattle.model.specs.Rules.{field_plain}
-use borrow.Author.Rules.{rules}
 use Rattle.rowrules.proofs.field_plain.Goals as goal
 
 pub returns : goal.returns

@@ -1,18 +1,14 @@
 -- Whether the fields pass that the loop has yet to test is whether all do.
 -- Assumes nothing.
-use mathlib.Core.Path.{◌∙◌, ◌≡◌}
+use mathlib.Core.Path.{◌≡◌}
 use mathlib.Core.List.{zip_with}
 use Prim.Native.Nat.{◌-◌}
-use native.Mathlib.Omega.{arith}
-use lib.ListN.{drop, length, take}
+use lib.ListN.{drop, take}
 use Rattle.model.specs.Places.{all_in}
 use Rattle.model.specs.Rules.{field_plain}
 use Rattle.lists.specs.Folds.{all_pairs}
-use Rattle.lists.proofs.Turns.{pairs_end, pairs_go, pairs_start, pairs_stop, passed, refused}
 use Rattle.store.specs.Packed.{unpacked_field}
 use Rattle.rowrules.specs.Kept.{field_shown}
-use Rattle.rowrules.proofs.RowLaws.{fields-shown}
-use borrow.Author.Rules.{rules}
 use Rattle.rowrules.proofs.fields_plain.Given as goal
 
 abbrev pub invariant-loop-i : goal.invariant-loop-i

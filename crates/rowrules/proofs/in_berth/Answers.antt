@@ -1,9 +1,9 @@
 -- What is counted and what is yet to be counted is the count.
 -- Assumes nothing.
 use mathlib.Core.Path.{◌∙◌, ◌≡◌, ap, sym}
-use Prim.Native.Nat.{◌+◌, ◌-◌, ◌<◌, ◌≤◌}
+use Prim.Native.Nat.{◌<◌, ◌≤◌}
 use native.Mathlib.Omega.{arith}
-use lib.ListN.{drop, length, take}
+use lib.ListN.{length}
 use Rattle.lists.specs.Folds.{count_in}
 use Rattle.lists.proofs.Turns.{count-end, count_no, count_yes}
 use Rattle.rowrules.specs.Kept.{of_berth}
@@ -31,9 +31,9 @@ loop-i-preserved c =
     let hl : length a.l ≡ 32 = rows_long in
     let hi : i < n = c.loop-i-test.true in
     let hn : n ≤ length a.l = omega arith in
-    elim c.if-same_class.branch
-    [ then-same_class w ↦ (let e = count_yes (of_berth a.c) a.l n hn i _ hi (sym c.same_class.ensures ∙ w.if-same_class.true) in omega (arith, e))
-    | else-same_class w ↦ (let e = count_no (of_berth a.c) a.l n hn i _ hi (sym c.same_class.ensures ∙ w.if-same_class.false) in omega (arith, e))
+    elim c.if-same_class.branch [
+      | then-same_class w ↦ (let e = count_yes (of_berth a.c) a.l n hn i _ hi (sym c.same_class.ensures ∙ w.if-same_class.true) in omega (arith, e))
+      | else-same_class w ↦ (let e = count_no (of_berth a.c) a.l n hn i _ hi (sym c.same_class.ensures ∙ w.if-same_class.false) in omega (arith, e))
     ]
 
 pub returns : goal.returns

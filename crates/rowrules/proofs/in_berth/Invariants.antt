@@ -1,15 +1,10 @@
 -- What is counted and what is yet to be counted is the count.
 -- Assumes nothing.
-use mathlib.Core.Path.{◌∙◌, ◌≡◌, ap, sym}
-use mathlib.Core.Logic.{⊎_elim}
-use Prim.Native.Nat.{◌+◌, ◌-◌, ◌<◌, ◌≤◌}
-use native.Mathlib.Omega.{arith}
-use lib.ListN.{drop, length, take}
+use mathlib.Core.Path.{◌≡◌}
+use Prim.Native.Nat.{◌+◌, ◌-◌, ◌≤◌}
+use lib.ListN.{drop, take}
 use Rattle.lists.specs.Folds.{count_in}
-use Rattle.lists.proofs.Turns.{count-end, count_no, count_yes}
 use Rattle.rowrules.specs.Kept.{of_berth}
-use Rattle.rowrules.proofs.RowLaws.{rows_small}
-use borrow.Author.Rules.{rules}
 use Rattle.rowrules.proofs.in_berth.Given as goal
 
 abbrev pub invariant-loop-i : goal.invariant-loop-i

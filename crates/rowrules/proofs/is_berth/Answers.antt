@@ -5,7 +5,6 @@ use mathlib.Core.Bool.{Bool, ◌&&◌}
 use Rattle.model.specs.Classes.{same}
 use Rattle.store.specs.Packed.{unpacked_berth}
 use Rattle.rowrules.proofs.PartLaws.{sure-when}
-use borrow.Author.Rules.{rules}
 use Rattle.rowrules.proofs.is_berth.Goals as goal
 
 pub returns : goal.returns

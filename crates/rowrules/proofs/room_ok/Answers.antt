@@ -6,7 +6,6 @@ use lib.Dec.{leb}
 use lib.ListN.{take}
 use Rattle.rowrules.specs.Kept.{room_in}
 use Rattle.rowrules.proofs.PartLaws.{here}
-use borrow.Author.Rules.{rules}
 use Rattle.rowrules.proofs.room_ok.Goals as goal
 
 pub returns : goal.returns

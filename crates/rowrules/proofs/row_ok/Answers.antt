@@ -3,7 +3,6 @@
 use mathlib.Core.Bool.{◌&&◌}
 use Rattle.model.specs.Rules.{row_ok}
 use Rattle.store.specs.Packed.{unpacked_row}
-use borrow.Author.Rules.{rules}
 use Rattle.rowrules.proofs.row_ok.Goals as goal
 
 pub returns : goal.returns

@@ -1,14 +1,10 @@
 -- Whether the rows pass that the loop has yet to test is whether all do.
 -- Assumes nothing.
-use mathlib.Core.Path.{◌≡◌, ap}
+use mathlib.Core.Path.{◌≡◌}
 use Prim.Native.Nat.{◌-◌}
-use native.Mathlib.Omega.{arith}
-use lib.ListN.{drop, length, take}
+use lib.ListN.{drop, take}
 use Rattle.model.specs.Places.{all}
-use Rattle.lists.proofs.Turns.{all_ends, all_goes, all_stops, passed, refused}
 use Rattle.rowrules.specs.Kept.{row_kept}
-use Rattle.rowrules.proofs.RowLaws.{rows_small}
-use borrow.Author.Rules.{rules}
 use Rattle.rowrules.proofs.rows_ok.Given as goal
 
 abbrev pub invariant-loop-i : goal.invariant-loop-i

@@ -1,9 +1,8 @@
 -- Whether the rows pass that the loop has yet to test is whether all do.
 -- Assumes nothing.
 use mathlib.Core.Path.{◌≡◌, ap}
-use Prim.Native.Nat.{◌-◌}
 use native.Mathlib.Omega.{arith}
-use lib.ListN.{drop, length, take}
+use lib.ListN.{length}
 use Rattle.model.specs.Places.{all}
 use Rattle.model.specs.Rules.{row_plain}
 use Rattle.lists.proofs.Turns.{all_ends, all_goes, all_stops, passed, refused}

@@ -1,16 +1,10 @@
 -- Whether the rows pass that the loop has yet to test is whether all do.
 -- Assumes nothing.
-use mathlib.Core.Path.{◌≡◌, ap}
+use mathlib.Core.Path.{◌≡◌}
 use Prim.Native.Nat.{◌-◌}
-use native.Mathlib.Omega.{arith}
-use lib.ListN.{drop, length, take}
+use lib.ListN.{drop, take}
 use Rattle.model.specs.Places.{all}
-use Rattle.model.specs.Rules.{row_plain}
-use Rattle.lists.proofs.Turns.{all_ends, all_goes, all_stops, passed, refused}
-use Rattle.store.specs.Packed.{unpacked_row}
 use Rattle.rowrules.specs.Kept.{row_shown}
-use Rattle.rowrules.proofs.RowLaws.{rows_small}
-use borrow.Author.Rules.{rules}
 use Rattle.rowrules.proofs.rows_plain.Given as goal
 
 abbrev pub invariant-loop-i : goal.invariant-loop-i

@@ -2,7 +2,6 @@
 -- Assumes nothing.
 use mathlib.Core.Bool.{◌&&◌, ◌||◌, not}
 use Rattle.model.specs.Rules.{berth_ok}
-use borrow.Author.Rules.{rules}
 use Rattle.rules.proofs.berth_ok.Goals as goal
 
 pub returns : goal.returns

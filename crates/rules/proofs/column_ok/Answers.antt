@@ -3,7 +3,6 @@
 use mathlib.Core.Bool.{◌&&◌, ◌||◌, not}
 use Rattle.model.specs.Rules.{column_ok}
 use Rattle.store.specs.Packed.{column_of}
-use borrow.Author.Rules.{rules}
 use Rattle.rules.proofs.column_ok.Goals as goal
 
 pub returns : goal.returns

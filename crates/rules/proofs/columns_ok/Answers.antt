@@ -2,10 +2,8 @@
 -- Assumes nothing.
 use mathlib.Core.Path.{◌∙◌, ◌≡◌}
 use mathlib.Core.List.{map}
-use Prim.Native.Nat.{◌-◌}
 use native.Mathlib.Omega.{arith}
-use lib.ListN.{drop, length, take}
-use Rattle.model.specs.Places.{all, all_in}
+use lib.ListN.{length}
 use Rattle.model.specs.Rules.{column_ok}
 use Rattle.lists.proofs.Turns.{all_ends, all_goes, all_starts, all_stops, passed, refused}
 use Rattle.store.specs.declared.Column.{Column}

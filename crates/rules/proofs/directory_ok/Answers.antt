@@ -11,7 +11,6 @@ use Rattle.store.specs.Numbered.{past_table}
 use Rattle.rules.specs.Kept.{table_kept}
 use Rattle.rowrules.proofs.PartLaws.{here}
 use Rattle.rules.proofs.TableLaws.{directory-ruled}
-use borrow.Author.Rules.{rules}
 use Rattle.rules.proofs.directory_ok.Goals as goal
 
 pub returns : goal.returns

@@ -11,7 +11,6 @@ use Rattle.store.specs.Numbered.{past_table}
 use Rattle.rules.specs.Kept.{table_shown}
 use Rattle.rowrules.proofs.PartLaws.{here}
 use Rattle.rules.proofs.TableLaws.{directory_shown_lem}
-use borrow.Author.Rules.{rules}
 use Rattle.rules.proofs.directory_plain.Goals as goal
 
 pub returns : goal.returns

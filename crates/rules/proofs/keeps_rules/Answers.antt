@@ -3,7 +3,6 @@
 use mathlib.Core.Path.{◌∙◌}
 use Rattle.lists.proofs.Turns.{passed, refused}
 use Rattle.rules.proofs.OursLaws.{not_ours, ours-ruled}
-use borrow.Author.Rules.{rules}
 use Rattle.rules.proofs.keeps_rules.Goals as goal
 
 pub returns-then-not-canonical_store : goal.returns-then-not-canonical_store

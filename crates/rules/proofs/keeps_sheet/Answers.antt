@@ -3,7 +3,6 @@
 use mathlib.Core.Path.{◌∙◌}
 use Rattle.lists.proofs.Turns.{passed, refused}
 use Rattle.rules.proofs.OursLaws.{not_plain, ours_plain_lem}
-use borrow.Author.Rules.{rules}
 use Rattle.rules.proofs.keeps_sheet.Goals as goal
 
 pub returns-then-not-keeps_rules : goal.returns-then-not-keeps_rules

@@ -8,7 +8,6 @@ use Rattle.lists.proofs.Chains.{chain-all}
 use Rattle.store.specs.Numbered.{past_directory}
 use Rattle.rules.specs.Kept.{directory_shown}
 use Rattle.rules.proofs.TableLaws.{store-shown}
-use borrow.Author.Rules.{rules}
 use Rattle.rules.proofs.plain_store.Goals as goal
 
 pub returns : goal.returns

@@ -8,7 +8,6 @@ use Rattle.lists.proofs.Chains.{chain-all}
 use Rattle.store.specs.Numbered.{past_directory}
 use Rattle.rules.specs.Kept.{directory_kept}
 use Rattle.rules.proofs.TableLaws.{store-ruled}
-use borrow.Author.Rules.{rules}
 use Rattle.rules.proofs.ruled_store.Goals as goal
 
 pub returns : goal.returns

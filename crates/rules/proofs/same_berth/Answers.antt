@@ -4,7 +4,6 @@ use mathlib.Core.Path.{◌∙◌, ap}
 use mathlib.Core.Bool.{Bool, ◌&&◌}
 use Rattle.store.specs.Packed.{unpacked_berth}
 use Rattle.rules.proofs.BerthLaws.{berth-same}
-use borrow.Author.Rules.{rules}
 use Rattle.rules.proofs.same_berth.Goals as goal
 
 pub returns : goal.returns

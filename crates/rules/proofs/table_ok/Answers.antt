@@ -8,7 +8,6 @@ use Rattle.store.specs.Packed.{rows_in, table_of}
 use Rattle.store.proofs.TidyLaws.{LongTable}
 use Rattle.rowrules.proofs.PartLaws.{here}
 use Rattle.rules.proofs.TableLaws.{table-ruled}
-use borrow.Author.Rules.{rules}
 use Rattle.rules.proofs.table_ok.Goals as goal
 
 pub returns : goal.returns

@@ -5,7 +5,6 @@ use Rattle.model.specs.Rules.{table_plain}
 use Rattle.store.specs.Packed.{rows_in, table_of}
 use Rattle.rowrules.proofs.PartLaws.{here}
 use Rattle.rules.proofs.TableLaws.{table_shown_lem}
-use borrow.Author.Rules.{rules}
 use Rattle.rules.proofs.table_plain.Goals as goal
 
 pub returns : goal.returns

@@ -1,7 +1,6 @@
 -- A class, and then the line ends or not.
 -- Assumes nothing.
 use mathlib.Core.Path.{◌∙◌, ap, sym}
-use borrow.Author.Rules.{rules}
 use Rattle.steps.specs.Steps.{class_to}
 use Rattle.steps.proofs.FormLaws.{last_end, last_more, only_by}
 use Rattle.steps.proofs.class_last.Goals as goal

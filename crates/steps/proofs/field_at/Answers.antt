@@ -1,7 +1,6 @@
 -- The class, then the value.
 -- Assumes nothing.
 use mathlib.Core.Path.{◌∙◌, ap, sym}
-use borrow.Author.Rules.{rules}
 use Rattle.steps.specs.Steps.{class_to, value_to}
 use Rattle.steps.proofs.field_at.Goals as goal
 

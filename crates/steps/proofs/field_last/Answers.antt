@@ -1,7 +1,6 @@
 -- A class and a value, and then the line ends or not.
 -- Assumes nothing.
 use mathlib.Core.Path.{◌∙◌, ap, sym}
-use borrow.Author.Rules.{rules}
 use Rattle.steps.specs.Steps.{field_to}
 use Rattle.steps.proofs.FormLaws.{both-only, last_end, last_more}
 use Rattle.steps.proofs.field_last.Goals as goal

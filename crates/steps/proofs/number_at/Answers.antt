@@ -3,7 +3,6 @@
 use mathlib.Core.Path.{◌∙◌, ap, refl, sym}
 use Prim.Native.Nat.{◌≤◌}
 use native.Mathlib.Omega.{arith}
-use borrow.Author.Rules.{rules}
 use Rattle.model.specs.Numbers.{read_dec, leads_well}
 use Rattle.model.specs.Texts.{number}
 use Rattle.model.proofs.DecimalLaws.{dec_text_lem}

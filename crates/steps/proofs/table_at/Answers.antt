@@ -1,7 +1,6 @@
 -- One number, then the other.
 -- Assumes nothing.
 use mathlib.Core.Path.{◌∙◌, ap, sym}
-use borrow.Author.Rules.{rules}
 use Rattle.steps.specs.Steps.{num_to}
 use Rattle.steps.proofs.table_at.Goals as goal
 

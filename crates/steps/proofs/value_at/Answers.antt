@@ -1,7 +1,6 @@
 -- The field at the place is read; the place behind it is where the next one stands.
 -- Assumes nothing.
 use mathlib.Core.Path.{◌∙◌, ap, refl, sym}
-use borrow.Author.Rules.{rules}
 use Rattle.model.specs.Texts.{read_value, value}
 use Rattle.field.specs.Reading.{value_in}
 use Rattle.steps.proofs.StepLaws.{step_bad, step_to}

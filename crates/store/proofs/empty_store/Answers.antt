@@ -1,7 +1,6 @@
 -- `store::empty_store` is four times the constant, the packing of nothing.
 -- Assumes nothing.
 use lib.ListN.{replicate}
-use borrow.Author.Rules.{rules}
 use Rattle.store.specs.Packed.{packed, packed_directory}
 use Rattle.store.proofs.empty_store.Goals as goal
 

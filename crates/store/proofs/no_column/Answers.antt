@@ -1,7 +1,6 @@
 -- `store::no_column` is the constant.
 -- Assumes nothing.
 use mathlib.Core.Bool.{false}
-use borrow.Author.Rules.{rules}
 use Rattle.model.specs.declared.Kind.TheVariants.{Counts}
 use Rattle.store.proofs.no_column.Goals as goal
 

@@ -2,7 +2,6 @@
 -- Assumes nothing.
 use mathlib.Core.Bool.{false}
 use lib.ListN.{replicate}
-use borrow.Author.Rules.{rules}
 use Rattle.store.specs.Packed.{bottom}
 use Rattle.store.proofs.no_directory.Goals as goal
 

@@ -1,7 +1,6 @@
 -- `store::no_row` is the constant.
 -- Assumes nothing.
 use lib.ListN.{replicate}
-use borrow.Author.Rules.{rules}
 use Rattle.store.specs.Packed.{bottom}
 use Rattle.store.proofs.no_row.Goals as goal
 

@@ -1,6 +1,5 @@
 -- `tidy::berth_tidy` is the definition of a tidy berth.
 -- Assumes nothing.
-use borrow.Author.Rules.{rules}
 use Rattle.store.specs.Canonical.{berth_tidy}
 use Rattle.tidy.proofs.berth_tidy.Goals as goal
 

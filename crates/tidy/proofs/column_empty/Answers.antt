@@ -1,6 +1,5 @@
 -- `tidy::column_empty` is the definition of an empty column.
 -- Assumes nothing.
-use borrow.Author.Rules.{rules}
 use Rattle.store.specs.Canonical.{column_empty}
 use Rattle.tidy.proofs.column_empty.Goals as goal
 

@@ -1,6 +1,5 @@
 -- `tidy::column_tidy` is the definition of a tidy column.
 -- Assumes nothing.
-use borrow.Author.Rules.{rules}
 use Rattle.store.specs.Canonical.{column_tidy}
 use Rattle.tidy.proofs.column_tidy.Goals as goal
 

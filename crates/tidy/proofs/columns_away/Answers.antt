@@ -2,11 +2,9 @@
 -- Assumes nothing.
 use mathlib.Core.Path.{◌≡◌, ap}
 use mathlib.Core.Bool.{not}
-use Prim.Native.Nat.{◌-◌}
 use native.Mathlib.Omega.{arith}
-use lib.ListN.{length, take, drop}
+use lib.ListN.{length}
 use borrow.Author.Rules.{rules}
-use Rattle.model.specs.Places.{all}
 use Rattle.lists.proofs.Turns.{all_starts, all_stops, all_goes, all_ends}
 use Rattle.store.specs.Canonical.{column_away}
 use Rattle.tidy.proofs.columns_away.Goals as goal

@@ -1,13 +1,9 @@
 -- `tidy::columns_away` tests all of an array: the loop speaks of what is left.
 -- Assumes nothing.
-use mathlib.Core.Path.{◌≡◌, ap}
-use mathlib.Core.Bool.{not}
+use mathlib.Core.Path.{◌≡◌}
 use Prim.Native.Nat.{◌-◌}
-use native.Mathlib.Omega.{arith}
-use lib.ListN.{length, take, drop}
-use borrow.Author.Rules.{rules}
+use lib.ListN.{take, drop}
 use Rattle.model.specs.Places.{all}
-use Rattle.lists.proofs.Turns.{all_starts, all_stops, all_goes, all_ends}
 use Rattle.store.specs.Canonical.{column_away}
 use Rattle.tidy.proofs.columns_away.Given as goal
 

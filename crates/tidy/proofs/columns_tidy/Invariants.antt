@@ -2,11 +2,8 @@
 -- Assumes nothing.
 use mathlib.Core.Path.{◌≡◌}
 use Prim.Native.Nat.{◌-◌}
-use native.Mathlib.Omega.{arith}
-use lib.ListN.{length, take, drop}
-use borrow.Author.Rules.{rules}
+use lib.ListN.{take, drop}
 use Rattle.model.specs.Places.{all}
-use Rattle.lists.proofs.Turns.{refused, passed, all_starts, all_stops, all_goes, all_ends}
 use Rattle.store.specs.Canonical.{column_tidy}
 use Rattle.tidy.proofs.columns_tidy.Given as goal
 

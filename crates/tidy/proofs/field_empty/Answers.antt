@@ -1,6 +1,5 @@
 -- `tidy::field_empty` is the definition of an empty field.
 -- Assumes nothing.
-use borrow.Author.Rules.{rules}
 use Rattle.store.specs.Canonical.{field_empty}
 use Rattle.tidy.proofs.field_empty.Goals as goal
 

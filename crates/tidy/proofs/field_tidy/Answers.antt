@@ -1,6 +1,5 @@
 -- `tidy::field_tidy` is the definition of a tidy field.
 -- Assumes nothing.
-use borrow.Author.Rules.{rules}
 use Rattle.store.specs.Canonical.{field_tidy}
 use Rattle.tidy.proofs.field_tidy.Goals as goal
 

@@ -1,11 +1,9 @@
 -- `tidy::fields_empty` tests all of an array: the loop speaks of what is left.
 -- Assumes nothing.
 use mathlib.Core.Path.{◌≡◌}
-use Prim.Native.Nat.{◌-◌}
 use native.Mathlib.Omega.{arith}
-use lib.ListN.{length, take, drop}
+use lib.ListN.{length}
 use borrow.Author.Rules.{rules}
-use Rattle.model.specs.Places.{all}
 use Rattle.lists.proofs.Turns.{refused, passed, all_starts, all_stops, all_goes, all_ends}
 use Rattle.store.specs.Canonical.{field_empty}
 use Rattle.tidy.proofs.fields_empty.Goals as goal

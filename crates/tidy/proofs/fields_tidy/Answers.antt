@@ -1,11 +1,9 @@
 -- `tidy::fields_tidy` tests all pairs of two arrays: the loop speaks of what is left.
 -- Assumes nothing.
 use mathlib.Core.Path.{◌≡◌}
-use Prim.Native.Nat.{◌-◌}
 use native.Mathlib.Omega.{arith}
-use lib.ListN.{length, take, drop}
+use lib.ListN.{length}
 use borrow.Author.Rules.{rules}
-use Rattle.lists.specs.Folds.{all_pairs}
 use Rattle.lists.proofs.Turns.{refused, passed, pairs_start, pairs_stop, pairs_go, pairs_end}
 use Rattle.store.specs.Canonical.{field_tidy}
 use Rattle.tidy.proofs.fields_tidy.Goals as goal

@@ -2,11 +2,8 @@
 -- Assumes nothing.
 use mathlib.Core.Path.{◌≡◌}
 use Prim.Native.Nat.{◌-◌}
-use native.Mathlib.Omega.{arith}
-use lib.ListN.{length, take, drop}
-use borrow.Author.Rules.{rules}
+use lib.ListN.{take, drop}
 use Rattle.lists.specs.Folds.{all_pairs}
-use Rattle.lists.proofs.Turns.{refused, passed, pairs_start, pairs_stop, pairs_go, pairs_end}
 use Rattle.store.specs.Canonical.{field_tidy}
 use Rattle.tidy.proofs.fields_tidy.Given as goal
 

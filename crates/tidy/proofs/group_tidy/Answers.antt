@@ -1,6 +1,5 @@
 -- `tidy::group_tidy` is the definition of a tidy group.
 -- Assumes nothing.
-use borrow.Author.Rules.{rules}
 use Rattle.store.specs.Canonical.{group_tidy}
 use Rattle.tidy.proofs.group_tidy.Goals as goal
 

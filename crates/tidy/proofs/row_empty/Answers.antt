@@ -4,7 +4,6 @@ use mathlib.Core.Path.{◌≡◌, ◌∙◌}
 use mathlib.Core.Bool.{◌&&◌}
 use lib.ListN.{length}
 use borrow.Author.Tests.{eq-eqb}
-use borrow.Author.Rules.{rules}
 use Rattle.lists.proofs.Loops.{long}
 use Rattle.lists.proofs.Chains.{and-sure}
 use Rattle.store.specs.Canonical.{row_empty}

@@ -1,6 +1,5 @@
 -- `tidy::row_tidy` is the definition of a tidy row.
 -- Assumes nothing.
-use borrow.Author.Rules.{rules}
 use Rattle.store.specs.Canonical.{row_tidy}
 use Rattle.tidy.proofs.row_tidy.Goals as goal
 

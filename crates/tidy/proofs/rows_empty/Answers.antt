@@ -2,10 +2,9 @@
 -- Assumes nothing.
 use mathlib.Core.Path.{◌≡◌, ap}
 use mathlib.Core.List.{List}
-use Prim.Native.Nat.{◌-◌}
 use native.Mathlib.Omega.{arith}
 use lib.Seq.{take_all}
-use lib.ListN.{length, take, drop}
+use lib.ListN.{length, drop}
 use borrow.Author.Rules.{rules}
 use Rattle.model.specs.Places.{all}
 use Rattle.lists.proofs.Turns.{refused, passed, all_stops, all_goes, all_ends}

@@ -1,15 +1,9 @@
 -- `tidy::rows_empty` tests all rows past the count: the loop speaks of what is left.
 -- Assumes nothing.
-use mathlib.Core.Path.{◌≡◌, ap}
-use mathlib.Core.List.{List}
+use mathlib.Core.Path.{◌≡◌}
 use Prim.Native.Nat.{◌-◌}
-use native.Mathlib.Omega.{arith}
-use lib.Seq.{take_all}
-use lib.ListN.{length, take, drop}
-use borrow.Author.Rules.{rules}
+use lib.ListN.{take, drop}
 use Rattle.model.specs.Places.{all}
-use Rattle.lists.proofs.Turns.{refused, passed, all_stops, all_goes, all_ends}
-use Rattle.store.specs.declared.Row.{Row}
 use Rattle.store.specs.Canonical.{row_empty}
 use Rattle.tidy.proofs.rows_empty.Given as goal
 

@@ -1,9 +1,9 @@
 -- `tidy::rows_tidy` tests all of the first rows: the loop speaks of what is left of them.
 -- Assumes nothing.
 use mathlib.Core.Path.{◌≡◌, ap, ◌∙◌}
-use Prim.Native.Nat.{◌-◌, ℕ}
+use Prim.Native.Nat.{ℕ}
 use native.Mathlib.Omega.{arith}
-use lib.ListN.{length, take, drop}
+use lib.ListN.{length, take}
 use borrow.Author.Rules.{rules}
 use Rattle.model.specs.Places.{all}
 use Rattle.lists.proofs.Turns.{refused, passed, all_stops, all_goes, all_ends}

@@ -1,13 +1,9 @@
 -- `tidy::rows_tidy` tests all of the first rows: the loop speaks of what is left of them.
 -- Assumes nothing.
-use mathlib.Core.Path.{◌≡◌, ap, ◌∙◌}
-use Prim.Native.Nat.{◌-◌, ℕ}
-use native.Mathlib.Omega.{arith}
-use lib.ListN.{length, take, drop}
-use borrow.Author.Rules.{rules}
+use mathlib.Core.Path.{◌≡◌}
+use Prim.Native.Nat.{◌-◌}
+use lib.ListN.{take, drop}
 use Rattle.model.specs.Places.{all}
-use Rattle.lists.proofs.Turns.{refused, passed, all_stops, all_goes, all_ends}
-use Rattle.lists.proofs.Loops.{take_small}
 use Rattle.store.specs.Canonical.{row_tidy}
 use Rattle.tidy.proofs.rows_tidy.Given as goal
 

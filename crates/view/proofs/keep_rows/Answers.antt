@@ -2,7 +2,7 @@
 -- Assumes nothing.
 use mathlib.Core.Path.{◌≡◌, refl, sym, ap, ◌∙◌}
 use mathlib.Core.List.{List, []}
-use Prim.Native.Nat.{ℕ, ◌-◌, ◌≤◌, ◌<◌}
+use Prim.Native.Nat.{ℕ, ◌≤◌, ◌<◌}
 use native.Mathlib.Omega.{arith}
 use lib.ListN.{length, take, drop, set, replicate}
 use Rattle.lists.proofs.Loops.{over, over_none}
@@ -30,24 +30,24 @@ loop-i-preserved c =
     let hl : length a.rows ≡ 32 = rows_long in
     let hi : l.i < a.n = c.loop-i-test.true in
     let hn : a.n ≤ length a.rows = omega arith in
-    elim c.if-dominates.branch
-    [ then-dominates w ↦
-      (let y = l.invariant.3 ∙ kept_yes (sees_row a.c) (seen_row a.c a.ks) a.rows a.n hn l.i _ hi (sym c.dominates.ensures ∙ w.if-dominates.true) in
-      let b = begins ys l.k _ _ no_row y in (
-        search rules,
-        omega arith,
-        w.out-is ∙ ap (set l.out l.k) w.view_row-h.ensures ∙ collect_turn ys (replicate 32 no_row) l.out l.k _ _ l.invariant.2 y ∙ ap (over ys (replicate 32 no_row)) (sym w.k-is),
-        ap (λ (m : ℕ). drop m ys) w.k-is ∙ b.others,
-        omega arith,
-      ))
-    | else-dominates w ↦
-      (let y = l.invariant.3 ∙ kept_no (sees_row a.c) (seen_row a.c a.ks) a.rows a.n hn l.i _ hi (sym c.dominates.ensures ∙ w.if-dominates.false) in (
-        search rules,
-        omega arith,
-        w.out-is ∙ l.invariant.2 ∙ ap (over ys (replicate 32 no_row)) (sym w.k-is),
-        ap (λ (m : ℕ). drop m ys) w.k-is ∙ y,
-        omega arith,
-      ))
+    elim c.if-dominates.branch [
+      | then-dominates w ↦
+          (let y = l.invariant.3 ∙ kept_yes (sees_row a.c) (seen_row a.c a.ks) a.rows a.n hn l.i _ hi (sym c.dominates.ensures ∙ w.if-dominates.true) in
+          let b = begins ys l.k _ _ no_row y in (
+            search rules,
+            omega arith,
+            w.out-is ∙ ap (set l.out l.k) w.view_row-h.ensures ∙ collect_turn ys (replicate 32 no_row) l.out l.k _ _ l.invariant.2 y ∙ ap (over ys (replicate 32 no_row)) (sym w.k-is),
+            ap (λ (m : ℕ). drop m ys) w.k-is ∙ b.others,
+            omega arith,
+          ))
+      | else-dominates w ↦
+          (let y = l.invariant.3 ∙ kept_no (sees_row a.c) (seen_row a.c a.ks) a.rows a.n hn l.i _ hi (sym c.dominates.ensures ∙ w.if-dominates.false) in (
+            search rules,
+            omega arith,
+            w.out-is ∙ l.invariant.2 ∙ ap (over ys (replicate 32 no_row)) (sym w.k-is),
+            ap (λ (m : ℕ). drop m ys) w.k-is ∙ y,
+            omega arith,
+          ))
     ]
 
 pub returns : goal.returns

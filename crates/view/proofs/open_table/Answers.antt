@@ -11,7 +11,6 @@ use Rattle.store.specs.declared.Column.{Column}
 use Rattle.store.specs.Packed.{rows_in}
 use Rattle.view.specs.Seen.{rows_at, seen_column, seen_rows}
 use Rattle.view.proofs.TableLaws.{made_of, table_open}
-use borrow.Author.Rules.{rules}
 use Rattle.view.proofs.open_table.Goals as goal
 
 pub returns : goal.returns

@@ -2,7 +2,6 @@
 -- Assumes nothing.
 use mathlib.Core.Path.{◌∙◌}
 use Rattle.view.specs.Seen.{show_field}
-use borrow.Author.Rules.{rules}
 use Rattle.view.proofs.show_field.Goals as goal
 
 pub returns-then-k : goal.returns-then-k

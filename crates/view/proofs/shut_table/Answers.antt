@@ -4,7 +4,6 @@ use mathlib.Core.Bool.{true}
 use Rattle.lists.specs.Pad.{pad}
 use Rattle.store.specs.Packed.{packed_berth, packed_column, packed_group, packed_table}
 use Rattle.view.specs.Seen.{shut_at}
-use borrow.Author.Rules.{rules}
 use Rattle.view.proofs.shut_table.Goals as goal
 
 pub returns : goal.returns

@@ -5,7 +5,6 @@ use mathlib.Core.Bool.{false, true}
 use Rattle.model.specs.declared.Reply.TheVariants.{Done}
 use Rattle.lists.proofs.Turns.{passed, refused}
 use Rattle.view.proofs.AnswerLaws.{answer_by}
-use borrow.Author.Rules.{rules}
 use Rattle.view.proofs.view_at.Goals as goal
 
 pub returns-then-not-keeps_rules : goal.returns-then-not-keeps_rules

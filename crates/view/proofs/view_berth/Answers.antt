@@ -3,7 +3,6 @@
 use mathlib.Core.Path.{◌∙◌}
 use mathlib.Core.Bool.{false, true}
 use Rattle.view.proofs.PartLaws.{berth-seen}
-use borrow.Author.Rules.{rules}
 use Rattle.view.proofs.view_berth.Goals as goal
 
 pub returns-then-b-dominates : goal.returns-then-b-dominates

@@ -3,7 +3,6 @@
 use mathlib.Core.Path.{◌∙◌}
 use mathlib.Core.Bool.{false, true}
 use Rattle.view.proofs.PartLaws.{column-seen}
-use borrow.Author.Rules.{rules}
 use Rattle.view.proofs.view_column.Goals as goal
 
 pub returns-then-k-has_group : goal.returns-then-k-has_group

@@ -2,10 +2,9 @@
 -- Assumes nothing.
 use mathlib.Core.Path.{◌≡◌, ◌∙◌}
 use mathlib.Core.List.{map}
-use Prim.Native.Nat.{◌-◌, ◌≤◌}
 use native.Mathlib.Omega.{arith}
 use lib.ListN.{length}
-use Rattle.lists.proofs.Loops.{over, over_none}
+use Rattle.lists.proofs.Loops.{over_none}
 use Rattle.lists.proofs.Zips.{map-all, map-turn}
 use Rattle.view.specs.Seen.{seen_column}
 use borrow.Author.Rules.{rules}

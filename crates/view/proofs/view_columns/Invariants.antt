@@ -1,14 +1,10 @@
 -- The columns before the loop's number are those that are kept.
 -- Assumes nothing.
-use mathlib.Core.Path.{◌≡◌, ◌∙◌}
+use mathlib.Core.Path.{◌≡◌}
 use mathlib.Core.List.{map}
 use Prim.Native.Nat.{◌-◌, ◌≤◌}
-use native.Mathlib.Omega.{arith}
-use lib.ListN.{length}
-use Rattle.lists.proofs.Loops.{over, over_none}
-use Rattle.lists.proofs.Zips.{map-all, map-turn}
+use Rattle.lists.proofs.Loops.{over}
 use Rattle.view.specs.Seen.{seen_column}
-use borrow.Author.Rules.{rules}
 use Rattle.view.proofs.view_columns.Given as goal
 
 abbrev pub invariant-loop-i : goal.invariant-loop-i

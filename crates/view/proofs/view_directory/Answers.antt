@@ -5,7 +5,6 @@ use mathlib.Core.Bool.{true}
 use borrow.Author.Tests.{not-false, not-true}
 use Rattle.lists.proofs.Turns.{passed, refused}
 use Rattle.view.proofs.TableLaws.{directory-away, directory_hidden, directory-seen}
-use borrow.Author.Rules.{rules}
 use Rattle.view.proofs.view_directory.Goals as goal
 
 pub returns-then-not-d : goal.returns-then-not-d

@@ -3,7 +3,6 @@
 use mathlib.Core.Path.{◌∙◌}
 use mathlib.Core.Bool.{false, true}
 use Rattle.view.proofs.PartLaws.{group-seen}
-use borrow.Author.Rules.{rules}
 use Rattle.view.proofs.view_group.Goals as goal
 
 pub returns-then-g-dominates : goal.returns-then-g-dominates

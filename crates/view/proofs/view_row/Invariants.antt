@@ -1,14 +1,10 @@
 -- The fields before the loop's number are shown as their columns say.
 -- Assumes nothing.
-use mathlib.Core.Path.{◌≡◌, ◌∙◌}
+use mathlib.Core.Path.{◌≡◌}
 use mathlib.Core.List.{zip_with}
 use Prim.Native.Nat.{◌-◌, ◌≤◌}
-use native.Mathlib.Omega.{arith}
-use lib.ListN.{length}
-use Rattle.lists.proofs.Loops.{long, over, over_none}
-use Rattle.lists.proofs.Zips.{zip-all, zip_turn}
-use Rattle.view.specs.Seen.{seen_row, show_field}
-use borrow.Author.Rules.{rules}
+use Rattle.lists.proofs.Loops.{over}
+use Rattle.view.specs.Seen.{show_field}
 use Rattle.view.proofs.view_row.Given as goal
 
 abbrev pub invariant-loop-i : goal.invariant-loop-i

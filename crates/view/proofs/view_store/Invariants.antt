@@ -1,15 +1,10 @@
 -- The directories before the loop's number are as the clearance sees them.
 -- Assumes nothing.
-use mathlib.Core.Path.{◌≡◌, ◌∙◌}
+use mathlib.Core.Path.{◌≡◌}
 use mathlib.Core.List.{map}
 use Prim.Native.Nat.{◌-◌, ◌≤◌}
-use native.Mathlib.Omega.{arith}
-use lib.ListN.{length}
-use Rattle.lists.proofs.Loops.{long, over, over_none}
-use Rattle.lists.proofs.Zips.{map-all, map-turn}
+use Rattle.lists.proofs.Loops.{over}
 use Rattle.view.specs.Seen.{seen_directory}
-use Rattle.view.proofs.TableLaws.{store-seen}
-use borrow.Author.Rules.{rules}
 use Rattle.view.proofs.view_store.Given as goal
 
 abbrev pub invariant-loop-i : goal.invariant-loop-i

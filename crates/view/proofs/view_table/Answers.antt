@@ -7,7 +7,6 @@ use borrow.Author.Tests.{not-false, not-true}
 use Rattle.lists.proofs.Loops.{long}
 use Rattle.lists.proofs.Turns.{passed, refused}
 use Rattle.view.proofs.TableLaws.{table_away_lem, table-seen, table_shut}
-use borrow.Author.Rules.{rules}
 use Rattle.view.proofs.view_table.Goals as goal
 
 pub returns-then-not-t : goal.returns-then-not-t

@@ -1,7 +1,6 @@
 -- A sheet is tested for hidden fields too.
 -- Assumes nothing.
 use mathlib.Core.Path.{◌∙◌}
-use borrow.Author.Rules.{rules}
 use Rattle.writer.proofs.WritingLaws.{sheet_may, view_may}
 use Rattle.writer.proofs.may_write.Goals as goal
 

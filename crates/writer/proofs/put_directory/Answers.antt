@@ -1,7 +1,6 @@
 -- The directory's lines where it is there, and else nothing.
 -- Assumes nothing.
 use native.Mathlib.Omega.{arith}
-use borrow.Author.Rules.{rules}
 use Rattle.room.proofs.EachLaws.{wrote_no, wrote_yes}
 use Rattle.writer.specs.Texts.{directory_lines, directory_text}
 use Rattle.writer.proofs.put_directory.Goals as goal

@@ -1,6 +1,5 @@
 -- Its own line, then the tables.
 -- Assumes nothing.
-use borrow.Author.Rules.{rules}
 use Rattle.room.proofs.RoomLaws.{◌then◌}
 use Rattle.writer.proofs.StoreLaws.{directory_lines_lem}
 use Rattle.writer.proofs.put_directory_lines.Goals as goal

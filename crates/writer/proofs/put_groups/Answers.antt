@@ -1,13 +1,11 @@
 -- What is left of the groups is left to be written.
 -- Assumes nothing.
-use mathlib.Core.Path.{◌≡◌, refl}
-use Prim.Native.Nat.{◌-◌, ◌≤◌}
+use mathlib.Core.Path.{refl}
 use native.Mathlib.Omega.{arith}
-use lib.ListN.{drop, get_or, length}
+use lib.ListN.{get_or}
 use borrow.Author.Rules.{rules}
 use Rattle.room.proofs.EachLaws.{each_done, each_turn}
-use Rattle.room.proofs.RoomLaws.{Left, left-all}
-use Rattle.room.specs.Writing.{each}
+use Rattle.room.proofs.RoomLaws.{left-all}
 use Rattle.store.specs.Packed.{no_group}
 use Rattle.entries.specs.Lines.{group_text}
 use Rattle.writer.proofs.put_groups.Goals as goal

@@ -1,14 +1,10 @@
 -- What is left of the groups is left to be written.
 -- Assumes nothing.
-use mathlib.Core.Path.{◌≡◌, refl}
+use mathlib.Core.Path.{◌≡◌}
 use Prim.Native.Nat.{◌-◌, ◌≤◌}
-use native.Mathlib.Omega.{arith}
-use lib.ListN.{drop, get_or, length}
-use borrow.Author.Rules.{rules}
-use Rattle.room.proofs.EachLaws.{each_done, each_turn}
-use Rattle.room.proofs.RoomLaws.{Left, left-all}
+use lib.ListN.{drop, length}
+use Rattle.room.proofs.RoomLaws.{Left}
 use Rattle.room.specs.Writing.{each}
-use Rattle.store.specs.Packed.{no_group}
 use Rattle.entries.specs.Lines.{group_text}
 use Rattle.writer.proofs.put_groups.Given as goal
 

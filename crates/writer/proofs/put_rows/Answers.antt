@@ -1,12 +1,9 @@
 -- What is left of the rows is left to be written.
 -- Assumes nothing.
 use mathlib.Core.Path.{◌≡◌}
-use Prim.Native.Nat.{◌-◌, ◌≤◌}
 use native.Mathlib.Omega.{arith}
-use lib.ListN.{drop, length, take}
+use lib.ListN.{length}
 use borrow.Author.Rules.{rules}
-use Rattle.model.specs.Lines.{flat}
-use Rattle.room.proofs.RoomLaws.{Left}
 use Rattle.entries.specs.Lines.{row_text}
 use Rattle.writer.proofs.FirstLaws.{flat_ends, flat_starts, flat-turn}
 use Rattle.writer.proofs.put_rows.Goals as goal

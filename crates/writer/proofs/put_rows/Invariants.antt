@@ -2,13 +2,10 @@
 -- Assumes nothing.
 use mathlib.Core.Path.{◌≡◌}
 use Prim.Native.Nat.{◌-◌, ◌≤◌}
-use native.Mathlib.Omega.{arith}
 use lib.ListN.{drop, length, take}
-use borrow.Author.Rules.{rules}
 use Rattle.model.specs.Lines.{flat}
 use Rattle.room.proofs.RoomLaws.{Left}
 use Rattle.entries.specs.Lines.{row_text}
-use Rattle.writer.proofs.FirstLaws.{flat_ends, flat_starts, flat-turn}
 use Rattle.writer.proofs.put_rows.Given as goal
 
 abbrev pub invariant-loop-i : goal.invariant-loop-i

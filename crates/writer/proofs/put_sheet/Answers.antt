@@ -1,6 +1,5 @@
 -- The heading's line, then the directories.
 -- Assumes nothing.
-use borrow.Author.Rules.{rules}
 use Rattle.model.specs.Sheets.{sheet_text}
 use Rattle.room.proofs.RoomLaws.{◌then◌}
 use Rattle.writer.proofs.StoreLaws.{store_text_lem}

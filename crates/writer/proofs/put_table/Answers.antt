@@ -1,7 +1,6 @@
 -- The table's lines where it is there, and else nothing.
 -- Assumes nothing.
 use native.Mathlib.Omega.{arith}
-use borrow.Author.Rules.{rules}
 use Rattle.room.proofs.EachLaws.{wrote_no, wrote_yes}
 use Rattle.writer.specs.Texts.{table_lines, table_text}
 use Rattle.writer.proofs.put_table.Goals as goal

@@ -1,6 +1,5 @@
 -- Its own line, then the parts in order.
 -- Assumes nothing.
-use borrow.Author.Rules.{rules}
 use Rattle.room.proofs.RoomLaws.{◌then◌}
 use Rattle.store.specs.Packed.{rows_in}
 use Rattle.writer.proofs.StoreLaws.{table_lines_lem}

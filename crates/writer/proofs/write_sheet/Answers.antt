@@ -1,7 +1,6 @@
 -- Tested, and then written.
 -- Assumes nothing.
 use mathlib.Core.Path.{◌∙◌, sym}
-use borrow.Author.Rules.{rules}
 use Rattle.model.specs.Rooms.{unwritten}
 use Rattle.entries.specs.Lines.{heading_of}
 use Rattle.writer.proofs.WritingLaws.{rule_broken, rules-kept}

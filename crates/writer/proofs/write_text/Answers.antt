@@ -1,7 +1,6 @@
 -- Measured, and then written where it fits.
 -- Assumes nothing.
 use native.Mathlib.Omega.{arith}
-use borrow.Author.Rules.{rules}
 use Rattle.model.specs.Rooms.{unwritten}
 use Rattle.model.specs.Sheets.{sheet_text}
 use Rattle.room.proofs.RoomLaws.{wrote-long}

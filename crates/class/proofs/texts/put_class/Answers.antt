@@ -1,6 +1,5 @@
 -- The level's byte, then the marks' digits.
 -- Assumes nothing.
-use borrow.Author.Rules.{rules}
 use Rattle.model.specs.Texts.{class_text}
 use Rattle.room.proofs.RoomLaws.{◌then◌}
 use Rattle.class.proofs.texts.put_class.Goals as goal

@@ -2,7 +2,6 @@
 -- Assumes nothing.
 use mathlib.Core.Path.{◌∙◌, ap, sym}
 use native.Mathlib.Omega.{arith}
-use borrow.Author.Rules.{rules}
 use Rattle.model.proofs.NumberLaws.{hex_text}
 use Rattle.text.specs.Nums.{num_of}
 use Rattle.class.proofs.TextLaws.{class_by, class-none, class-over, class-under}

@@ -1,6 +1,5 @@
 -- The tab, then the class.
 -- Assumes nothing.
-use borrow.Author.Rules.{rules}
 use Rattle.room.proofs.RoomLaws.{◌then◌}
 use Rattle.class.proofs.texts.tab_class.Goals as goal
 

@@ -1,7 +1,6 @@
 -- What the reader of classes says, as a value.
 -- Assumes nothing.
 use mathlib.Core.Path.{◌∙◌, ap, sym}
-use borrow.Author.Rules.{rules}
 use Rattle.model.specs.Places.{map_o}
 use Rattle.model.specs.declared.Value.TheVariants.{Classed}
 use Rattle.class.specs.Reading.{class_in}

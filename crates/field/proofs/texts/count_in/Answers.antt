@@ -3,7 +3,6 @@
 use mathlib.Core.Path.{◌∙◌, ap, sym}
 use Prim.Native.Nat.{◌≤◌}
 use native.Mathlib.Omega.{arith}
-use borrow.Author.Rules.{rules}
 use Rattle.model.specs.Places.{map_o}
 use Rattle.model.specs.declared.Value.TheVariants.{Count}
 use Rattle.model.proofs.DecimalLaws.{dec_text_lem}

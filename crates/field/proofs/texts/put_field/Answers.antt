@@ -1,6 +1,5 @@
 -- The class, the tab, the value.
 -- Assumes nothing.
-use borrow.Author.Rules.{rules}
 use Rattle.room.proofs.RoomLaws.{◌then◌}
 use Rattle.field.specs.Writing.{field_text}
 use Rattle.field.proofs.texts.put_field.Goals as goal

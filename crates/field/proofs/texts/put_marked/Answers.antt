@@ -1,7 +1,6 @@
 -- Each case is written by its own writer.
 -- Assumes nothing.
 use native.Mathlib.Omega.{arith}
-use borrow.Author.Rules.{rules}
 use Rattle.model.specs.Texts.{marked_text}
 use Rattle.room.proofs.RoomLaws.{wrote_nothing}
 use Rattle.field.proofs.texts.put_marked.Goals as goal

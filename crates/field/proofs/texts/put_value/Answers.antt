@@ -1,7 +1,6 @@
 -- The mark, then what stands behind it.
 -- Assumes nothing.
 use mathlib.Core.Path.{◌≡◌}
-use borrow.Author.Rules.{rules}
 use Rattle.model.specs.Texts.{value_text}
 use Rattle.model.specs.Values.{mark}
 use Rattle.room.proofs.RoomLaws.{◌then◌}

@@ -2,7 +2,6 @@
 -- Assumes nothing.
 use mathlib.Core.Path.{◌∙◌, ap, sym}
 use mathlib.Core.Option.{some}
-use borrow.Author.Rules.{rules}
 use Rattle.model.specs.Places.{map_o}
 use Rattle.model.specs.Values.{rate_of}
 use Rattle.model.proofs.NumberLaws.{hex_text}

@@ -2,7 +2,6 @@
 -- Assumes nothing.
 use mathlib.Core.Path.{◌∙◌, ap, sym}
 use mathlib.Core.Bool.{false, true}
-use borrow.Author.Rules.{rules}
 use Rattle.field.specs.Reading.{value_in}
 use Rattle.field.proofs.MarkLaws.{plain_by, plain-none}
 use Rattle.field.proofs.texts.read_plain.Goals as goal

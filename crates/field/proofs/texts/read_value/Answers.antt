@@ -2,7 +2,6 @@
 -- Assumes nothing.
 use mathlib.Core.Path.{◌∙◌, refl, sym}
 use native.Mathlib.Omega.{arith}
-use borrow.Author.Rules.{rules}
 use borrow.Author.Tests.{ne_eqb}
 use Rattle.model.specs.Texts.{dash, letter_f, letter_k, letter_n, query, read_marked}
 use Rattle.field.proofs.MarkLaws.{value_by, value_none, value-other}

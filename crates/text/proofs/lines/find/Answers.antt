@@ -1,11 +1,7 @@
 -- From every place that the loop comes to, the field ends where it ends from the first.
 -- Assumes nothing.
-use mathlib.Core.Path.{◌∙◌, ◌≡◌, refl, sym}
-use Prim.Native.Nat.{◌-◌, ◌≤◌}
+use mathlib.Core.Path.{◌∙◌, refl, sym}
 use native.Mathlib.Omega.{arith}
-use lib.ListN.{length}
-use borrow.Author.Rules.{rules}
-use Rattle.text.specs.Fields.{end_of}
 use Rattle.text.proofs.FieldLaws.{end-here, end_off, end_on, end_past}
 use Rattle.text.proofs.lines.find.Goals as goal
 

@@ -1,7 +1,6 @@
 -- The part from the place to where the search ends is the field; past the text's end it is empty.
 -- Assumes nothing.
 use native.Mathlib.Omega.{arith}
-use borrow.Author.Rules.{rules}
 use Rattle.text.proofs.FieldLaws.{end_le, part_in_lem, part_past}
 use Rattle.text.proofs.lines.part.Goals as goal
 

@@ -1,12 +1,9 @@
 -- What is left of both texts is alike where the whole texts are.
 -- Assumes nothing.
-use mathlib.Core.Path.{◌∙◌, ◌≡◌, sym}
+use mathlib.Core.Path.{◌≡◌}
 use Prim.Native.Nat.{◌-◌, ◌≤◌}
-use native.Mathlib.Omega.{arith}
 use lib.ListN.{drop, length}
-use borrow.Author.Rules.{rules}
 use Rattle.model.specs.Lines.{is_text}
-use Rattle.text.proofs.WordLaws.{same_end, same_length, same_off, same_on}
 use Rattle.text.proofs.lines.same.Given as goal
 
 abbrev pub invariant-loop-i : goal.invariant-loop-i

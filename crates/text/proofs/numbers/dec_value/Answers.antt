@@ -2,12 +2,10 @@
 -- Assumes nothing.
 use mathlib.Core.Path.{◌∙◌, ◌≡◌, ap, refl, sym}
 use mathlib.Core.Option.{none, some}
-use Prim.Native.Nat.{◌-◌, ◌≤◌}
 use native.Mathlib.Omega.{arith}
-use lib.ListN.{drop, get_or, length}
-use borrow.Author.Rules.{rules}
+use lib.ListN.{get_or}
 use borrow.Author.Tests.{le-leb}
-use Rattle.model.specs.Numbers.{dec_digit, dec_value, num_from}
+use Rattle.model.specs.Numbers.{dec_digit, dec_value}
 use Rattle.text.specs.Nums.{num_of}
 use Rattle.text.proofs.ReadLaws.{dec_over, num_end, num_more, num_stop}
 use Rattle.text.proofs.numbers.dec_value.Goals as goal

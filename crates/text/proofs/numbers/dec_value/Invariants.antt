@@ -1,15 +1,9 @@
 -- The digits that are left, read on from what has been read, give the number of all of them.
 -- Assumes nothing.
-use mathlib.Core.Path.{◌∙◌, ◌≡◌, ap, refl, sym}
-use mathlib.Core.Option.{none, some}
+use mathlib.Core.Path.{◌≡◌}
 use Prim.Native.Nat.{◌-◌, ◌≤◌}
-use native.Mathlib.Omega.{arith}
-use lib.ListN.{drop, get_or, length}
-use borrow.Author.Rules.{rules}
-use borrow.Author.Tests.{le-leb}
-use Rattle.model.specs.Numbers.{dec_digit, dec_value, num_from}
-use Rattle.text.specs.Nums.{num_of}
-use Rattle.text.proofs.ReadLaws.{dec_over, num_end, num_more, num_stop}
+use lib.ListN.{drop, length}
+use Rattle.model.specs.Numbers.{dec_digit, num_from}
 use Rattle.text.proofs.numbers.dec_value.Given as goal
 
 abbrev pub invariant-loop-i : goal.invariant-loop-i

@@ -1,6 +1,5 @@
 -- Digits and letters.
 -- Assumes nothing.
-use borrow.Author.Rules.{rules}
 use borrow.Author.Tests.{le-ltb, lt-ltb}
 use Rattle.text.proofs.numbers.digit_byte.Goals as goal
 

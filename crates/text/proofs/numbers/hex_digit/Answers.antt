@@ -1,7 +1,6 @@
 -- A test for each end of the two ranges of digits.
 -- Assumes nothing.
 use native.Mathlib.Omega.{arith}
-use borrow.Author.Rules.{rules}
 use Rattle.model.proofs.NumberLaws.{in_range, over_range, under_range}
 use Rattle.text.proofs.numbers.hex_digit.Goals as goal
 

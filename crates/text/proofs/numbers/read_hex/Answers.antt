@@ -2,10 +2,9 @@
 -- Assumes nothing.
 use mathlib.Core.Path.{◌∙◌, ◌≡◌, ap, subst, sym}
 use mathlib.Core.Option.{none, some}
-use Prim.Native.Nat.{◌*◌, ◌+◌, ◌-◌, ◌<◌, ◌^◌, ◌≤◌, ℕ}
+use Prim.Native.Nat.{◌*◌, ◌+◌, ◌<◌, ◌^◌, ℕ}
 use native.Mathlib.Omega.{arith}
-use lib.ListN.{drop, get_or, length}
-use borrow.Author.Rules.{rules}
+use lib.ListN.{drop, get_or}
 use borrow.Author.Tests.{eq-eqb, ne_eqb}
 use Rattle.model.specs.Numbers.{hex_digit, num_from, read_hex}
 use Rattle.model.proofs.NumberLaws.{hex_rule}

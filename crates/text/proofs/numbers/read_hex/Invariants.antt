@@ -1,16 +1,9 @@
 -- The digits that are left, read on from what has been read, give the number of all of them; i digits take 4 i bits.
 -- Assumes nothing.
-use mathlib.Core.Path.{◌∙◌, ◌≡◌, ap, subst, sym}
-use mathlib.Core.Option.{none, some}
-use Prim.Native.Nat.{◌*◌, ◌+◌, ◌-◌, ◌<◌, ◌^◌, ◌≤◌, ℕ}
-use native.Mathlib.Omega.{arith}
-use lib.ListN.{drop, get_or, length}
-use borrow.Author.Rules.{rules}
-use borrow.Author.Tests.{eq-eqb, ne_eqb}
-use Rattle.model.specs.Numbers.{hex_digit, num_from, read_hex}
-use Rattle.model.proofs.NumberLaws.{hex_rule}
-use Rattle.text.specs.Nums.{num_of}
-use Rattle.text.proofs.ReadLaws.{grown, num_end, num_more, num_stop, shifted}
+use mathlib.Core.Path.{◌≡◌}
+use Prim.Native.Nat.{◌*◌, ◌-◌, ◌<◌, ◌^◌, ◌≤◌}
+use lib.ListN.{drop, length}
+use Rattle.model.specs.Numbers.{hex_digit, num_from}
 use Rattle.text.proofs.numbers.read_hex.Given as goal
 
 abbrev pub invariant-loop-i : goal.invariant-loop-i
