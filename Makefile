@@ -2,7 +2,7 @@
 .PHONY: run test fmt
 
 run:
-	@rt check
+	@rt all check
 	@echo
 	@echo "Everything is proved. What clearances see of two stores, by the proved code (crates/tour):"
 	@echo
@@ -19,4 +19,4 @@ test:
 	@.ci/run
 
 fmt:
-	@rt fmt
+	@for crate in crates/*/; do (cd "$$crate" && rt fmt) || exit 1; done

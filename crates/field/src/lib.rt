@@ -160,6 +160,7 @@ pub fn meets_value(asked: Value, found: Value) -> bool
 // ---- hiding
 
 // A field as a clearance sees it: its class stays, and its value is hidden where the class is not dominated.
+#[tactic(auto, unfolding(model::specs::Values::hide))]
 pub fn hide_field(c: Class, f: Field) -> Field
     ensures { result ≡ values.hide c f }
 {

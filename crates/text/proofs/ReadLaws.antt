@@ -14,8 +14,8 @@ use lib.Dec.{eqb}
 use lib.ListN.{drop, drop_of_length-le, get_or, length}
 use lib.Pow.{pow-add, shl_exact}
 use lib.Seq.{drop-cons}
-use borrow.Author.Tests.{lt-leb}
-use Rattle.model.specs.Numbers.{Bytes, dec_digit, dec_value, leads_well, num_from, on_num, up_to}
+use borrow.Author.Tests.{eq-eqb, lt-leb}
+use Rattle.model.specs.Numbers.{Bytes, dec_digit, dec_value, leads_well, num_from, on_num, read_dec, up_to}
 use Rattle.model.proofs.OptionLaws.{nothing_is}
 
 module _ (digit : ℕ → Option ℕ) (base : ℕ) where
@@ -81,3 +81,8 @@ unfolding leads_well
 lead_many [] h = absurd (omega arith)
 lead_many (b ∷ []) h = absurd (omega arith)
 lead_many (b ∷ a ∷ bs) h = refl
+
+-- a zero in front of another byte
+pub front_zero : (limit : ℕ) (s : Bytes) → 1 < length s → get_or s 0 0 ≡ 48 → read_dec limit s ≡ none
+unfolding read_dec
+front_zero limit s h e = simp (lead_many s h, eq-eqb (get_or s 0 0) 48 e)
