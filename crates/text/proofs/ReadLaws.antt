@@ -14,7 +14,7 @@ use lib.Dec.{eqb}
 use lib.ListN.{drop, drop_of_length-le, get_or, length}
 use lib.Pow.{pow-add, shl_exact}
 use lib.Seq.{drop-cons}
-use borrow.Author.Tests.{eq-eqb, lt-leb}
+use borrow.Author.Tests.{eq-eqb, lt-leb, ne_eqb}
 use Rattle.model.specs.Numbers.{Bytes, dec_digit, dec_value, leads_well, num_from, on_num, read_dec, up_to}
 use Rattle.model.proofs.OptionLaws.{nothing_is}
 
@@ -86,3 +86,7 @@ lead_many (b ∷ a ∷ bs) h = refl
 pub front_zero : (limit : ℕ) (s : Bytes) → 1 < length s → get_or s 0 0 ≡ 48 → read_dec limit s ≡ none
 unfolding read_dec
 front_zero limit s h e = simp (lead_many s h, eq-eqb (get_or s 0 0) 48 e)
+
+pub no_front_zero : (limit : ℕ) (s : Bytes) → 1 < length s → (get_or s 0 0 ≡ 48 → ⊥) → read_dec limit s ≡ dec_value limit s
+unfolding read_dec
+no_front_zero limit s h e = simp (lead_many s h, ne_eqb (get_or s 0 0) 48 e)

@@ -72,7 +72,7 @@ fn dec_value(s: &[u8], limit: u64) -> Num
 }
 
 // A decimal number with no zero in front, at most the limit.
-#[tactic(auto, using(crate::proofs::ReadLaws::front_zero))]
+#[tactic(auto, using(crate::proofs::ReadLaws::front_zero, crate::proofs::ReadLaws::no_front_zero))]
 pub fn read_dec(s: &[u8], limit: u64) -> Num
     ensures { num_of result ≡ read_dec limit s.now }
 {
