@@ -6,7 +6,7 @@ run:
 	@echo
 	@echo "Everything is proved. What clearances see of two stores, by the proved code (crates/tour):"
 	@echo
-	@sed 's/^/  /' crates/tour/stdout
+	@cd crates/tour && rt run 2>/dev/null >out/shown && sed 's/^/  /' out/shown
 	@echo
 	@echo "Document 01's example, tabs shown as spaces. Its six commands are the cards P1 to P6, which the proof computes"
 	@echo "(crates/model/specs/Cards.antt):"
