@@ -1,86 +1,166 @@
-// Whether the structs are the ones that stand for a store: each directory and table is tidy, in that what is absent is its constant.
+// Whether the structs are the ones that stand for a store: each part is tidy, in that what is absent is its constant.
 #![tactic(auto)]
 
-ghost use Rattle.std.specs.Prelude.{◌≡◌};
-ghost use Rattle.model.specs.Places.{conj};
-ghost use Rattle.store.specs.Canonical.{table_empty, table_tidy, directory_empty, directory_tidy, canonical};
+ghost use Rattle.std.specs.Prelude.{◌≡◌, Bool, not};
+ghost use Rattle.model.specs.Places.{all, conj};
+ghost use Rattle.store.specs.Canonical.{berth_away, group_away, column_away, table_away, berth_tidy, group_tidy, column_tidy, table_empty, table_tidy, directory_empty, directory_tidy, canonical};
 
 use class::class_sound;
-use store::{Directory, Store, Table};
-use tidy::{
-    berths_away, berths_tidy, columns_away, columns_tidy, groups_away, groups_tidy, is_bottom,
-    rows_empty, rows_tidy,
-};
+use store::{Berth, Column, Directory, Group, Store, Table};
+use tidy::{column_tidy, is_bottom, rows_empty, rows_tidy};
+
+// ---- the parts of a store
+
+// A part that may be absent: a directory, a table, or one of a table's berths, groups and columns. (A trait can't read the field `there`, so each impl does.)
+pub trait Part: Copy {
+    ghost tidy: { Self → Bool };
+
+    ghost away: { Self → Bool };
+
+    // Whether it is tidy: what it holds is ours, and it is the constant where it is absent.
+    fn is_tidy(self) -> bool
+        ensures { result ≡ tidy self };
+
+    // Whether it is absent.
+    fn is_away(self) -> bool
+        ensures { result ≡ away self };
+}
+
+// Whether each part is tidy.
+pub fn all_tidy<T: Part>(parts: &[T]) -> bool
+    ensures { result ≡ all T.tidy parts.now }
+{
+    parts.iter().all(|p| p.is_tidy())
+}
+
+// Whether no part is there.
+pub fn none_there<T: Part>(parts: &[T]) -> bool
+    ensures { result ≡ all T.away parts.now }
+{
+    parts.iter().all(|p| p.is_away())
+}
+
+// ---- berths, groups and columns
+
+// A berth is tidy if its class is one of ours, and the lowest where it is absent.
+impl Part for Berth {
+    ghost tidy = { berth_tidy };
+
+    ghost away = { berth_away };
+
+    #[tactic(auto, unfolding(store::specs::Canonical::berth_tidy))]
+    fn is_tidy(self) -> bool {
+        class_sound(self.class) && (self.there || is_bottom(self.class))
+    }
+
+    fn is_away(self) -> bool {
+        !self.there
+    }
+}
+
+// And so is a group, which is a type of its own so that it can't stand for a berth; its class has another name.
+impl Part for Group {
+    ghost tidy = { group_tidy };
+
+    ghost away = { group_away };
+
+    #[tactic(auto, unfolding(store::specs::Canonical::group_tidy))]
+    fn is_tidy(self) -> bool {
+        class_sound(self.exist) && (self.there || is_bottom(self.exist))
+    }
+
+    fn is_away(self) -> bool {
+        !self.there
+    }
+}
+
+// A column is tidy if its default is one of ours, and it is the constant where it is absent.
+impl Part for Column {
+    ghost tidy = { column_tidy };
+
+    ghost away = { column_away };
+
+    fn is_tidy(self) -> bool {
+        column_tidy(self)
+    }
+
+    fn is_away(self) -> bool {
+        !self.there
+    }
+}
+
+// ---- tables
 
 // Whether a tidy table holds what the constant does: the lowest class and maximum, and nothing else.
+#[tactic(auto, unfolding(store::specs::Canonical::table_empty))]
 pub(crate) fn table_empty(t: Table) -> bool
     ensures { result ≡ conj (table_empty t) }
 {
-    let k = t.class;
-    let m = t.max;
-    let bs = t.berths;
-    let gs = t.groups;
-    let ks = t.columns;
-    is_bottom(k)
-        & is_bottom(m)
-        & berths_away(bs)
-        & groups_away(gs)
-        & columns_away(ks)
-        & (t.count == 0)
+    is_bottom(t.class)
+        && is_bottom(t.max)
+        && none_there(&t.berths)
+        && none_there(&t.groups)
+        && none_there(&t.columns)
+        && t.count == 0
 }
 
-// Whether a table is tidy: its parts are, no row past the count holds anything, and it is the constant where it is absent.
-pub(crate) fn table_tidy(t: Table) -> bool
-    ensures { result ≡ table_tidy t }
-{
-    let k = t.class;
-    let m = t.max;
-    let bs = t.berths;
-    let gs = t.groups;
-    let ks = t.columns;
-    let rs = t.rows;
-    let parts = class_sound(k)
-        & class_sound(m)
-        & berths_tidy(bs)
-        & groups_tidy(gs)
-        & columns_tidy(ks);
-    parts
-        & (t.count <= 32)
-        & rows_tidy(ks, rs, t.count)
-        & rows_empty(rs, t.count)
-        & (t.there | table_empty(t))
+// A table is tidy if its parts are, no row past the count holds anything, and it is the constant where it is absent.
+impl Part for Table {
+    ghost tidy = { table_tidy };
+
+    ghost away = { table_away };
+
+    #[tactic(auto, unfolding(store::specs::Canonical::table_tidy, store::specs::Canonical::table_parts, store::specs::Canonical::table_lengths, store::specs::Packed::rows_in))]
+    fn is_tidy(self) -> bool {
+        class_sound(self.class)
+            && class_sound(self.max)
+            && all_tidy(&self.berths)
+            && all_tidy(&self.groups)
+            && all_tidy(&self.columns)
+            && self.count <= 32
+            && rows_tidy(self.columns, self.held())
+            && rows_empty(self.unused())
+            && (self.there || table_empty(self))
+    }
+
+    fn is_away(self) -> bool {
+        !self.there
+    }
 }
+
+// ---- directories, and the store
 
 // Whether a tidy directory holds what the constant does: the lowest classes, and no table.
+#[tactic(auto, unfolding(store::specs::Canonical::directory_empty))]
 pub(crate) fn directory_empty(d: Directory) -> bool
     ensures { result ≡ conj (directory_empty d) }
 {
-    let x = d.exist;
-    let k = d.class;
-    let a = d.tables[0];
-    let b = d.tables[1];
-    is_bottom(x) & is_bottom(k) & (!a.there & !b.there)
+    is_bottom(d.exist) && is_bottom(d.class) && none_there(&d.tables)
 }
 
-// Whether a directory is tidy: its classes are ours, its tables tidy, and it is the constant where it is absent.
-pub(crate) fn directory_tidy(d: Directory) -> bool
-    ensures { result ≡ directory_tidy d }
-{
-    let x = d.exist;
-    let k = d.class;
-    let a = d.tables[0];
-    let b = d.tables[1];
-    let tables = table_tidy(a) & table_tidy(b);
-    class_sound(x) & class_sound(k) & tables & (d.there | directory_empty(d))
+// A directory is tidy if its classes are ours, its tables tidy, and it is the constant where it is absent.
+impl Part for Directory {
+    ghost tidy = { directory_tidy };
+
+    ghost away = { λ d. not d.there };
+
+    #[tactic(auto, unfolding(store::specs::Canonical::directory_tidy, store::specs::Canonical::directory_parts))]
+    fn is_tidy(self) -> bool {
+        class_sound(self.exist)
+            && class_sound(self.class)
+            && all_tidy(&self.tables)
+            && (self.there || directory_empty(self))
+    }
+
+    fn is_away(self) -> bool {
+        !self.there
+    }
 }
 
 // Whether a store is canonical: each of its directories is tidy.
+#[tactic(auto, unfolding(store::specs::Canonical::canonical))]
 pub fn canonical_store(s: Store) -> bool
     ensures { result ≡ canonical s }
 {
-    let a = s.dirs[0];
-    let b = s.dirs[1];
-    let c = s.dirs[2];
-    let d = s.dirs[3];
-    directory_tidy(a) & directory_tidy(b) & directory_tidy(c) & directory_tidy(d)
+    all_tidy(&s.dirs)
 }

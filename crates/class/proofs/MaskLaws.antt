@@ -1,7 +1,7 @@
 -- Dominance as a mask test, for any number k of marks: the marks of b are among those of a where b and not a is zero.
 -- (lib.Bits has no law of a complement within k digits.)
 -- Assumes nothing.
-use mathlib.Core.Path.{◌≡◌}
+use mathlib.Core.Path.{◌≡◌, sym}
 use mathlib.Core.Bool.{true, false}
 use Prim.Native.Nat.{ℕ, zero, suc, ◌+◌, ◌-◌, ◌*◌, ◌/◌, ◌%◌, ◌^◌, ◌≤◌, ◌<◌, min}
 use native.Mathlib.Omega.{arith}
@@ -58,7 +58,12 @@ pub dominates_low : (a b : Class) → a.level < b.level → dominates a b ≡ fa
 unfolding dominates
 dominates_low a b h = rw (lt-leb b.level a.level h)
 
-pub dominates_mask : (k : ℕ) (a b : Class) → a.marks < 2 ^ k → b.marks < 2 ^ k → b.level ≤ a.level
-    → eqb (bit_and b.marks (2 ^ k - 1 - a.marks)) 0 ≡ dominates a b
+dominates_mask : (k : ℕ) (a b : Class) → a.marks < 2 ^ k → b.marks < 2 ^ k → b.level ≤ a.level
+    → dominates a b ≡ eqb (bit_and b.marks (2 ^ k - 1 - a.marks)) 0
 unfolding dominates
-dominates_mask k a b ha hb h = rw (le-leb b.level a.level h) (mask_within k a.marks b.marks ha hb)
+dominates_mask k a b ha hb h = rw (le-leb b.level a.level h) (sym (mask_within k a.marks b.marks ha hb))
+
+-- with the 32 marks of a u32
+pub dominates_32 : (a b : Class) → a.marks < 2 ^ 32 → b.marks < 2 ^ 32 → b.level ≤ a.level
+    → dominates a b ≡ eqb (bit_and b.marks (4294967295 - a.marks)) 0
+dominates_32 a b = dominates_mask 32 a b

@@ -3,7 +3,7 @@
 use mathlib.Core.Path.{◌≡◌, refl}
 use mathlib.Core.Bool.{cond}
 use mathlib.Core.List.{[], ◌∷◌}
-use mathlib.Core.Option.{Option, none}
+use Rattle.std.specs.Prelude.{None}
 use Prim.Native.Nat.{◌-◌, ◌<◌, ◌≤◌, ℕ}
 use native.Mathlib.Omega.{arith}
 use lib.ListN.{drop, get_or, length, length-drop, take}
@@ -19,26 +19,26 @@ to_end a s = take_all (length s - a) (drop a s) (simp length-drop (omega arith))
 
 module _ (w : ℕ) where
   -- an empty text is no class
-  pub class-none : (s : Bytes) → length s ≡ 0 → read_class w s ≡ none
+  pub class_none : (s : Bytes) → length s ≡ 0 → read_class w s ≡ None
   unfolding read_class
-  class-none [] h = refl
-  class-none (b ∷ bs) h = absurd (omega arith)
+  class_none [] h = refl
+  class_none (b ∷ bs) h = absurd (omega arith)
 
   -- any other is told by its first byte and the rest
   class-some : (s : Bytes) → 0 < length s
-      → read_class w s ≡ cond (between 48 (get_or s 0 0) 51) (map_o (λ (m : ℕ). record { level = get_or s 0 0 - 48; marks = m }) (read_hex w (drop 1 s))) none
+      → read_class w s ≡ cond (between 48 (get_or s 0 0) 51) (map_o (λ (m : ℕ). record { level = get_or s 0 0 - 48; marks = m }) (read_hex w (drop 1 s))) None
   unfolding read_class
   class-some [] h = absurd (omega arith)
   class-some (b ∷ bs) h = refl
 
   -- a first byte that is no level
-  pub class-under : (s : Bytes) → 0 < length s → get_or s 0 0 < 48 → read_class w s ≡ none
-  class-under s h k = rw (class-some s h, under_range 48 (get_or s 0 0) 51 k)
+  pub class_under : (s : Bytes) → get_or s 0 0 < 48 → 0 < length s → read_class w s ≡ None
+  class_under s k h = rw (class-some s h, under_range 48 (get_or s 0 0) 51 k)
 
-  pub class-over : (s : Bytes) → 0 < length s → 51 < get_or s 0 0 → read_class w s ≡ none
-  class-over s h k = rw (class-some s h, over_range 48 (get_or s 0 0) 51 k)
+  pub class_over : (s : Bytes) → 51 < get_or s 0 0 → 0 < length s → read_class w s ≡ None
+  class_over s k h = rw (class-some s h, over_range 48 (get_or s 0 0) 51 k)
 
-  -- a level, and what the part behind it was read as
-  pub class_by : (s : Bytes) (o : Option ℕ) → 0 < length s → 48 ≤ get_or s 0 0 → get_or s 0 0 ≤ 51 → o ≡ read_hex w (take (length s - 1) (drop 1 s))
-      → map_o (λ (m : ℕ). record { level = get_or s 0 0 - 48; marks = m }) o ≡ read_class w s
-  class_by s o h p q e = rw (class-some s h, in_range 48 (get_or s 0 0) 51 p q, e, to_end 1 s)
+  -- a level, and what the part behind it is read as
+  pub class_by : (s : Bytes) → 48 ≤ get_or s 0 0 → get_or s 0 0 ≤ 51 → 0 < length s
+      → read_class w s ≡ map_o (λ (m : ℕ). record { level = get_or s 0 0 - 48; marks = m }) (read_hex w (take (length s - 1) (drop 1 s)))
+  class_by s p q h = rw (class-some s h, in_range 48 (get_or s 0 0) 51 p q, to_end 1 s)

@@ -8,31 +8,24 @@ use model::Class;
 
 pub mod texts;
 
-// A class that was read, or none.
-#[derive(Clone, Copy)]
-pub enum ReadClass {
-    Good(Class),
-    Bad,
-}
-
 // Whether `a` dominates `b`: `b` has no higher level, and no mark that `a` has not.
+#[tactic(auto, using(crate::proofs::MaskLaws::dominates_low, crate::proofs::MaskLaws::dominates_32))]
 pub fn dominates(a: Class, b: Class) -> bool
     ensures { result ≡ order.dominates a b }
 {
-    if a.level < b.level {
-        return false;
-    }
-    (b.marks & !a.marks) == 0
+    b.level <= a.level && (b.marks & !a.marks) == 0
 }
 
 // Whether two classes are the same.
+#[tactic(auto, unfolding(model::specs::Classes::same))]
 pub fn same_class(a: Class, b: Class) -> bool
     ensures { result ≡ order.same a b }
 {
-    (a.level == b.level) & (a.marks == b.marks)
+    a == b
 }
 
 // Whether a class is one of ours. Its marks are 32 at most, as their type says; its level is tested.
+#[tactic(auto, using(crate::proofs::PartLaws::sound_level))]
 pub fn class_sound(k: Class) -> bool
     ensures { result ≡ order.class_sound 8 k }
 {
@@ -40,18 +33,12 @@ pub fn class_sound(k: Class) -> bool
 }
 
 // The common part of two classes: the lower level, and the marks that both have.
+#[tactic(auto, unfolding(model::specs::Classes::common))]
 pub fn common(a: Class, b: Class) -> Class
     ensures { result ≡ order.common a b }
 {
-    let marks = a.marks & b.marks;
-    if a.level <= b.level {
-        return Class {
-            level: a.level,
-            marks,
-        };
-    }
     Class {
-        level: b.level,
-        marks,
+        level: a.level.min(b.level),
+        marks: a.marks & b.marks,
     }
 }

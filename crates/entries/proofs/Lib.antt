@@ -1,4 +1,5 @@
 -- Laws by subject.
 pub mod FlatLaws
-pub mod TabLaws
 pub mod FieldLaws
+pub mod LineLaws
+pub mod SlotLaws

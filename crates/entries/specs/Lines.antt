@@ -1,6 +1,6 @@
 -- The lines of a sheet by the structs of the code: each is the line of the model's record, with its line feed.
 -- Assumes nothing.
-use Rattle.std.specs.Prelude.{cond, ℕ}
+use Rattle.std.specs.Prelude.{cond, ℕ, Option, None, Some}
 use mathlib.Core.List.{List, [], ◌∷◌, zip_with}
 use Rattle.model.specs.declared.Class.{Class}
 use Rattle.model.specs.declared.Field.{Field}
@@ -63,3 +63,8 @@ head_text b d t = line_of ((b ∷ []) ∷ dec_text d ∷ dec_text t ∷ [])
 -- the line of a berth or a group
 unfoldable pub part_text : ℕ → ℕ → ℕ → ℕ → Class → Bytes
 part_text b d t n k = ended (line_of ((b ∷ []) ∷ dec_text d ∷ dec_text t ∷ dec_text n ∷ class_text 8 k ∷ []))
+
+-- at number n, by its letter: nothing where there is none
+unfoldable pub part_if : ℕ → ℕ → ℕ → ℕ → Option Class → Bytes
+part_if b d t n None = []
+part_if b d t n (Some k) = part_text b d t n k

@@ -1,22 +1,21 @@
 // The lines of a sheet: its heading, and a line for each kind of record. None asks anything of the room.
 #![tactic(auto)]
 
-ghost use Rattle.std.specs.Prelude.{cond, [], ◌∷◌};
+ghost use Rattle.std.specs.Prelude.{[], ◌∷◌};
 ghost use Rattle.model.specs.Numbers.{dec_text};
 ghost use Rattle.model.specs.Records as records;
 ghost use Rattle.model.specs.Sheets.{heading_text};
 ghost use Rattle.model.specs.Values.{kind_letter};
-ghost use Rattle.room.specs.Writing.{Wrote};
-ghost use Rattle.field.specs.Writing.{field_text};
-ghost use Rattle.entries.specs.Lines.{heading_of, line_in, table_line, berth_text, group_text, column_text, fields_text, row_text, head_text, part_text};
+ghost use Rattle.room.specs.Writing.{Writes};
+ghost use Rattle.entries.specs.Lines.{heading_of, line_in, table_line, column_text, fields_text, row_text, head_text, part_if};
 ghost use Rattle.store.specs.Packed.{column_of};
 
-use class::texts::tab_class;
+use class::texts::put_tab_class;
 use field::kind_letter;
 use field::texts::put_field;
 use model::{Class, Field, Kind};
-use room::{put, put_byte, put_dec};
-use store::{Berth, Column, Group, Row};
+use room::Pen;
+use store::{Column, Row, TablePlace};
 
 // The first line of a sheet: of a whole store, or of a view.
 #[derive(Clone, Copy)]
@@ -25,176 +24,132 @@ pub enum Heading {
     View,
 }
 
-// The heading, without its line feed.
-pub fn put_heading(room: &mut [u8], at: usize, heading: Heading) -> usize
-    ensures { Wrote room.old at (heading_text (heading_of heading)) result room.new }
+// The heading, without its line feed. (A match on the two headings is all the choice there is; a closure for each would be longer.)
+#[tactic(auto, using(room::proofs::PenLaws::writes), unfolding(model::specs::Sheets::heading_text))]
+pub fn put_heading(pen: &mut Pen, heading: Heading)
+    ensures { Writes pen.old (heading_text (heading_of heading)) pen.new }
 {
     match heading {
-        Heading::Sheet => put(room, at, b"SHEET"),
-        Heading::View => put(room, at, b"VIEW"),
+        Heading::Sheet => pen.text(b"SHEET"),
+        Heading::View => pen.text(b"VIEW"),
     }
 }
 
 // ---- fields
 
 // A tab and a number.
-fn tab_dec(room: &mut [u8], at: usize, n: usize) -> usize
-    ensures { Wrote room.old at (9 ∷ dec_text n) result room.new }
+#[tactic(auto, using(room::proofs::PenLaws::writes))]
+fn put_tab_decimal(pen: &mut Pen, n: usize)
+    ensures { Writes pen.old (9 ∷ dec_text n) pen.new }
 {
-    let p = put_byte(room, at, b'\t');
-    put_dec(room, p, n as u64)
+    pen.byte(b'\t');
+    pen.decimal(n as u64);
 }
 
 // A tab and the letter of a kind.
-fn tab_kind(room: &mut [u8], at: usize, k: Kind) -> usize
-    ensures { Wrote room.old at (9 ∷ kind_letter k ∷ []) result room.new }
+#[tactic(auto, using(room::proofs::PenLaws::writes))]
+fn put_tab_kind(pen: &mut Pen, k: Kind)
+    ensures { Writes pen.old (9 ∷ kind_letter k ∷ []) pen.new }
 {
-    let p = put_byte(room, at, b'\t');
-    put_byte(room, p, kind_letter(k))
+    pen.byte(b'\t');
+    pen.byte(kind_letter(k));
 }
 
 // ---- directories and tables
 
 // The line of a directory: its existence class and its class.
-pub fn put_directory_line(room: &mut [u8], at: usize, d: usize, exist: Class, class: Class) -> usize
-    ensures { Wrote room.old at (line_in d (records.directory exist class)) result room.new }
+#[tactic(auto, using(room::proofs::PenLaws::writes, crate::proofs::LineLaws::lines))]
+pub fn put_directory_line(pen: &mut Pen, d: usize, exist: Class, class: Class)
+    ensures { Writes pen.old (line_in d (records.directory exist class)) pen.new }
 {
-    let p = put_byte(room, at, b'D');
-    let q = tab_dec(room, p, d);
-    let u = tab_class(room, q, exist);
-    let v = tab_class(room, u, class);
-    put_byte(room, v, b'\n')
+    pen.byte(b'D');
+    put_tab_decimal(pen, d);
+    put_tab_class(pen, exist);
+    put_tab_class(pen, class);
+    pen.byte(b'\n');
 }
 
-// The start of a line in a table: its letter, and the numbers of the directory and the table.
-fn put_head(room: &mut [u8], at: usize, letter: u8, d: usize, t: usize) -> usize
-    ensures { Wrote room.old at (head_text letter d t) result room.new }
+// The start of a line in a table: its letter, and the numbers of the directory and the table. (The letter is the byte that is written, and no kind of anything.)
+#[tactic(auto, using(room::proofs::PenLaws::writes, crate::proofs::LineLaws::lines))]
+fn put_head(pen: &mut Pen, letter: u8, at: TablePlace)
+    ensures { Writes pen.old (head_text letter at.directory at.table) pen.new }
 {
-    let p = put_byte(room, at, letter);
-    let q = tab_dec(room, p, d);
-    tab_dec(room, q, t)
+    pen.byte(letter);
+    put_tab_decimal(pen, at.directory);
+    put_tab_decimal(pen, at.table);
 }
 
 // The line of a table: its class and its maximum.
-pub fn put_table_line(
-    room: &mut [u8],
-    at: usize,
-    d: usize,
-    t: usize,
-    class: Class,
-    max: Class,
-) -> usize
-    ensures { Wrote room.old at (table_line d t (records.table class max)) result room.new }
+#[tactic(auto, using(room::proofs::PenLaws::writes, crate::proofs::LineLaws::lines))]
+pub fn put_table_line(pen: &mut Pen, at: TablePlace, class: Class, max: Class)
+    ensures { Writes pen.old (table_line at.directory at.table (records.table class max)) pen.new }
 {
-    let p = put_head(room, at, b'T', d, t);
-    let q = tab_class(room, p, class);
-    let u = tab_class(room, q, max);
-    put_byte(room, u, b'\n')
+    put_head(pen, b'T', at);
+    put_tab_class(pen, class);
+    put_tab_class(pen, max);
+    pen.byte(b'\n');
 }
 
 // ---- berths and groups
 
-// The line of a berth or a group, by its letter: its number and its class.
-fn put_part(room: &mut [u8], at: usize, letter: u8, d: usize, t: usize, n: usize, k: Class) -> usize
-    ensures { Wrote room.old at (part_text letter d t n k) result room.new }
+// The line of the berth or the group at a number, by its letter, if it is there: its class.
+#[tactic(auto, using(room::proofs::PenLaws::writes, crate::proofs::LineLaws::lines))]
+pub fn put_part(pen: &mut Pen, letter: u8, at: TablePlace, n: usize, class: Option<Class>)
+    ensures { Writes pen.old (part_if letter at.directory at.table n class) pen.new }
 {
-    let p = put_head(room, at, letter, d, t);
-    let q = tab_dec(room, p, n);
-    let u = tab_class(room, q, k);
-    put_byte(room, u, b'\n')
-}
-
-// The line of the berth at a number, if it is there.
-pub fn put_berth(room: &mut [u8], at: usize, d: usize, t: usize, n: usize, b: Berth) -> usize
-    ensures { Wrote room.old at (berth_text d t n b) result room.new }
-{
-    let k = b.class;
-    if b.there {
-        return put_part(room, at, b'B', d, t, n, k);
+    if let Some(k) = class {
+        put_head(pen, letter, at);
+        put_tab_decimal(pen, n);
+        put_tab_class(pen, k);
+        pen.byte(b'\n');
     }
-    at
-}
-
-// The line of the group at a number, if it is there.
-pub fn put_group(room: &mut [u8], at: usize, d: usize, t: usize, n: usize, g: Group) -> usize
-    ensures { Wrote room.old at (group_text d t n g) result room.new }
-{
-    let k = g.exist;
-    if g.there {
-        return put_part(room, at, b'G', d, t, n, k);
-    }
-    at
 }
 
 // ---- columns
 
 // The line of a column: its number, its group, its kind and its default.
-fn put_column_line(room: &mut [u8], at: usize, d: usize, t: usize, n: usize, c: Column) -> usize
-    ensures { Wrote room.old at (table_line d t (records.column (n, column_of c))) result room.new }
+#[tactic(auto, using(room::proofs::PenLaws::writes, crate::proofs::LineLaws::lines))]
+fn put_column_line(pen: &mut Pen, at: TablePlace, n: usize, c: &Column)
+    ensures { Writes pen.old (table_line at.directory at.table (records.column (n, column_of c.now))) pen.new }
 {
-    let kind = c.kind;
-    let default = c.default;
-    let p = put_head(room, at, b'C', d, t);
-    let q = tab_dec(room, p, n);
-    let u = tab_dec(room, q, c.group as usize);
-    let v = tab_kind(room, u, kind);
-    let w = put_field(room, v, default);
-    put_byte(room, w, b'\n')
+    put_head(pen, b'C', at);
+    put_tab_decimal(pen, n);
+    put_tab_decimal(pen, usize::from(c.group));
+    put_tab_kind(pen, c.kind);
+    put_field(pen, c.default);
+    pen.byte(b'\n');
 }
 
 // The line of the column at a number, if it is there.
-pub fn put_column(room: &mut [u8], at: usize, d: usize, t: usize, n: usize, c: Column) -> usize
-    ensures { Wrote room.old at (column_text d t n c) result room.new }
+#[tactic(auto, using(room::proofs::PenLaws::writes), unfolding(crate::specs::Lines::column_text))]
+pub fn put_column(pen: &mut Pen, at: TablePlace, n: usize, c: &Column)
+    ensures { Writes pen.old (column_text at.directory at.table n c.now) pen.new }
 {
     if c.there {
-        return put_column_line(room, at, d, t, n, c);
+        put_column_line(pen, at, n, c);
     }
-    at
 }
 
 // ---- rows
 
-// A field, if its column is there.
-fn put_shown(room: &mut [u8], at: usize, there: bool, f: Field) -> usize
-    ensures { Wrote room.old at (cond there (field_text 8 f) []) result room.new }
-{
-    if there {
-        return put_field(room, at, f);
-    }
-    at
-}
-
 // The fields of the columns that are there.
-fn put_fields(room: &mut [u8], at: usize, columns: [Column; 8], fields: [Field; 8]) -> usize
-    ensures { Wrote room.old at (fields_text columns fields) result room.new }
+fn put_fields(pen: &mut Pen, columns: &[Column], fields: &[Field])
+    ensures { Writes pen.old (fields_text columns.now fields.now) pen.new }
 {
-    let mut p = at;
-    let mut i = 0;
-    while i < 8 {
-        let c = columns[i];
-        let f = fields[i];
-        let there = c.there;
-        p = put_shown(room, p, there, f);
-        i += 1;
+    for (c, f) in columns.iter().zip(fields) {
+        if c.there {
+            put_field(pen, *f);
+        }
     }
-    p
 }
 
 // The line of a row: its existence class, and its fields.
-pub fn put_row(
-    room: &mut [u8],
-    at: usize,
-    d: usize,
-    t: usize,
-    columns: [Column; 8],
-    row: Row,
-) -> usize
-    ensures { Wrote room.old at (row_text d t columns row) result room.new }
+#[tactic(auto, using(room::proofs::PenLaws::writes, crate::proofs::LineLaws::lines))]
+pub fn put_row(pen: &mut Pen, at: TablePlace, columns: &[Column], row: &Row)
+    ensures { Writes pen.old (row_text at.directory at.table columns.now row.now) pen.new }
 {
-    let exist = row.exist;
-    let fields = row.fields;
-    let p = put_head(room, at, b'R', d, t);
-    let q = tab_class(room, p, exist);
-    let e = put_fields(room, q, columns, fields);
-    put_byte(room, e, b'\n')
+    put_head(pen, b'R', at);
+    put_tab_class(pen, row.exist);
+    put_fields(pen, columns, &row.fields);
+    pen.byte(b'\n');
 }

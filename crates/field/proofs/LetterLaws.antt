@@ -2,7 +2,7 @@
 -- Assumes nothing.
 use mathlib.Core.Path.{◌≡◌, refl}
 use mathlib.Core.List.{List, [], ◌∷◌}
-use mathlib.Core.Option.{none}
+use Rattle.std.specs.Prelude.{None}
 use Prim.Native.Nat.{ℕ}
 use native.Mathlib.Omega.{arith}
 use lib.ListN.{get_or, length}
@@ -19,7 +19,7 @@ module _ {A : Type 0} (l : List (ℕ × A)) where
   letter_one (b ∷ d ∷ bs) h = absurd (omega arith)
 
   -- none or more are no letter
-  pub letter_not : (s : Bytes) → (length s ≡ 1 → ⊥) → read_letter l s ≡ none
+  pub letter_not : (s : Bytes) → (length s ≡ 1 → ⊥) → read_letter l s ≡ None
   unfolding read_letter
   letter_not [] h = refl
   letter_not (b ∷ []) h = absurd (h refl)

@@ -1,19 +1,15 @@
--- Rates and their bits: only the one not-a-number of a float differs from itself, and its bits are these.
+-- Rates and their bits: which of them are no number's, and the bits of the one not-a-number of a float.
 -- Assumes nothing.
 use mathlib.Core.Path.{◌≡◌, refl, sym}
-use mathlib.Core.Bool.{true, false, not, false≢true}
-use Prim.Native.Nat.{◌*◌}
-use lib.Ieee.{Float, nan, inf, fin, up, down, eq, is_nan, binary32, to_bits}
-use borrow.Author.Tests.{eq-eqb}
+use mathlib.Core.Bool.{false, not, false≢true}
+use Prim.Native.Nat.{ℕ, ◌%◌}
+use lib.Dec.{ltb}
+use lib.Ieee.{Float, nan, inf, fin, is_nan, nan_bits, binary32, to_bits}
+use lib.Ieee.Bits.{nan_bits_above}
 
--- a float equals itself just where it is a number
-pub itself : (x : Float) → eq x x ≡ not (is_nan x)
-unfolding eq is_nan
-itself nan = refl
-itself (inf true) = refl
-itself (inf false) = refl
-itself (fin true m e) = rw (eq-eqb (m * up e * down e) (m * up e * down e) refl)
-itself (fin false m e) = rw (eq-eqb (m * up e * down e) (m * up e * down e) refl)
+-- bits above those of the infinite rate, the sign taken off, are a not-a-number's
+pub nan_above : (b : ℕ) → nan_bits binary32 b ≡ ltb 2139095040 (b % 2147483648)
+nan_above b = nan_bits_above binary32 b
 
 -- the bits of a float that is no number
 pub no_number : (x : Float) → not (is_nan x) ≡ false → 2143289344 ≡ to_bits binary32 x

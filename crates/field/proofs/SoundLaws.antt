@@ -9,9 +9,9 @@ use borrow.Author.Tests.{lt-ltb}
 use Rattle.model.specs.declared.Value.TheVariants.{Count, Rate, Nan}
 use Rattle.model.specs.Values.{value_sound}
 
-pub sound-count : (w n : ℕ) → n < 2 ^ 32 → true ≡ value_sound w (Count n)
+pub sound_count : (w n : ℕ) → n < 2 ^ 32 → true ≡ value_sound w (Count n)
 unfolding value_sound
-sound-count w n h = sym (lt-ltb n (2 ^ 32) h)
+sound_count w n h = sym (lt-ltb n (2 ^ 32) h)
 
 pub sound_rate : (w : ℕ) (x : Float) → ieee.fits binary32 x ≡ true → not (is_nan x) ≡ value_sound w (Rate x)
 unfolding value_sound

@@ -1,12 +1,9 @@
--- Tests in a row: `a & b & c` of the code, which groups to the left, and the tests as a list. The same for all of a short array.
+-- Tests in a row, grouped to the left, and the tests as a list.
 -- Assumes nothing.
-use mathlib.Core.Path.{◌∙◌, ◌≡◌, ap, refl, sym}
+use mathlib.Core.Path.{◌∙◌, ◌≡◌, refl, sym}
 use mathlib.Core.Bool.{Bool, ◌&&◌, false, true}
-use mathlib.Core.List.{List, [], ◌++◌, ◌∷◌, map}
-use Prim.Native.Nat.{ℕ}
-use lib.ListN.{length}
-use Rattle.model.specs.Places.{all, conj}
-use Rattle.lists.proofs.Loops.{elements, reads}
+use mathlib.Core.List.{List, [], ◌++◌, ◌∷◌}
+use Rattle.model.specs.Places.{conj}
 
 abbrev pub chain_from : Bool → List Bool → Bool
 chain_from b [] = b
@@ -38,12 +35,3 @@ conj-append (false ∷ xs) ys = refl
 
 pub chain-sure : (xs ys : List Bool) → conj ys ≡ true → chain xs ≡ conj (xs ++ ys)
 chain-sure xs ys e = chain-conj xs ∙ and-sure (conj xs) (conj ys) e ∙ conj-append xs ys
-
--- all of an array, an element after another
-module _ {A : Type 0} (p : A → Bool) where
-  conj-all : (l : List A) → conj (map p l) ≡ all p l
-  conj-all [] = refl
-  conj-all (x ∷ l) = ap (λ (b : Bool). p x && b) (conj-all l)
-
-  pub chain-all : (l : List A) (d : A) (n : ℕ) → length l ≡ n → chain (map p (reads l d 0 n)) ≡ all p l
-  chain-all l d n h = chain-conj (map p (reads l d 0 n)) ∙ conj-all (reads l d 0 n) ∙ ap (all p) (elements l d n h)

@@ -1,6 +1,4 @@
--- Laws of lists, and of the loops over them.
-pub mod Loops
-pub mod Turns
+-- Laws of lists.
 pub mod Chains
-pub mod Zips
-pub mod Collect
+pub mod Pairs
+pub mod Counts

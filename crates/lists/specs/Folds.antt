@@ -1,4 +1,4 @@
--- What a loop over one list or two answers, over any type of element and any test.
+-- What a walk over one list or two answers, over any type of element and any test.
 -- Assumes nothing.
 use Rattle.std.specs.Prelude.{Bool, true, false, ◌&&◌, List, [], ◌∷◌, ℕ}
 use Rattle.model.specs.Places.{when, gather, tick}

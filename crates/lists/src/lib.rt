@@ -1,2 +1,2 @@
-// Lists and loops over them: what the proofs of the other crates cite. There is no code.
+// Lists: what the contracts and the proofs of the other crates cite. There is no code.
 #![tactic(auto)]

@@ -4,7 +4,7 @@ use mathlib.Core.Path.{◌∙◌, ◌≡◌, ap, refl, subst, sym}
 use mathlib.Core.Logic.{◌↔◌, ◌⊎◌, inl, inr, ⊎_elim}
 use mathlib.Core.Bool.{Bool, false, false≢true, not, true}
 use mathlib.Core.List.{List, [], ◌∷◌}
-use mathlib.Core.Option.{Option, none, some}
+use Rattle.std.specs.Prelude.{Option, None, Some}
 use Prim.Native.Nat.{◌+◌, ◌≤◌, suc, zero, ℕ}
 use native.Mathlib.Nat.{zero-add}
 use native.Mathlib.Omega.{arith}
@@ -25,7 +25,7 @@ use Rattle.model.specs.Forms.{only}
 use Rattle.model.specs.Commands.{Change, Condition, Given, New, new_class, new_field, new_value}
 use Rattle.model.specs.Answers.{unknown}
 use Rattle.model.specs.Checks.{allows, asks_misfit, asks_unseen, misfit, names, new_fits, no_berth, no_column, no_row, own, same_column, same_place, takes_from, uncovers, uncovers_at, unnamed}
-use Rattle.model.specs.Conditions.{Above, Allowed, AtLeast, Brings, Some, TakesNot, There, Uncovering, Visible}
+use Rattle.model.specs.Conditions.{Above, Allowed, AtLeast, Brings, SomeOf, TakesNot, There, Uncovering, Visible}
 use Rattle.model.proofs.Tests.{not-both, not-true}
 use Rattle.model.proofs.OptionLaws.{nothing_is}
 use Rattle.model.proofs.Reflects.{Reflects, always, and_reflects, any_reflects, clash, eqb_reflects, never, not_reflects, or_reflects, present_reflects, reworded, same_reflects, sure_reflects}
@@ -56,13 +56,13 @@ no_row_reflects t i =
     (λ e. ltb-false i n (not-true (ltb i n) e), λ h. ap not (le-ltb i n h))
 
 -- ---- 8: a visible column not named
-pub names_reflects : (gs : List Given) (j : ℕ) → Reflects (names gs j) (Some (λ (g : Given). g.column ≡ j) gs)
+pub names_reflects : (gs : List Given) (j : ℕ) → Reflects (names gs j) (SomeOf (λ (g : Given). g.column ≡ j) gs)
 unfolding names
 names_reflects gs j = any_reflects (λ (g : Given). eqb_reflects g.column j) gs
 
 -- a visible column that is not named, where the numbers of ks begin with n
 abbrev Unnamed : List Given → ℕ → Places Column → Type 0
-Unnamed gs n ks = (j : ℕ) × There (λ (k : Column). Unit {0}) (at j ks) × (¬ Some (λ (g : Given). g.column ≡ n + j) gs)
+Unnamed gs n ks = (j : ℕ) × There (λ (k : Column). Unit {0}) (at j ks) × (¬ SomeOf (λ (g : Given). g.column ≡ n + j) gs)
 
 unnamed-from : (gs : List Given) (n : ℕ) (ks : Places Column) → Reflects (unnamed gs n ks) (Unnamed gs n ks)
 unfolding unnamed
@@ -74,22 +74,22 @@ unnamed-from gs n (o ∷ ks) =
     (λ h. (suc h.0, h.1, moved (suc n + h.0) (n + suc h.0) (omega arith) h.2)))
     (λ h. back h.0 h.1 h.2)
   where
-    moved : (i j : ℕ) → i ≡ j → (¬ Some (λ (g : Given). g.column ≡ i) gs) → ¬ Some (λ (g : Given). g.column ≡ j) gs
-    moved i j e = subst (λ (m : ℕ). ¬ Some (λ (g : Given). g.column ≡ m) gs) e
+    moved : (i j : ℕ) → i ≡ j → (¬ SomeOf (λ (g : Given). g.column ≡ i) gs) → ¬ SomeOf (λ (g : Given). g.column ≡ j) gs
+    moved i j e = subst (λ (m : ℕ). ¬ SomeOf (λ (g : Given). g.column ≡ m) gs) e
 
-    back : (j : ℕ) → There (λ (k : Column). Unit {0}) (at j (o ∷ ks)) → (¬ Some (λ (g : Given). g.column ≡ n + j) gs)
-        → (There (λ (k : Column). Unit {0}) o × (¬ Some (λ (g : Given). g.column ≡ n) gs)) ⊎ Unnamed gs (suc n) ks
+    back : (j : ℕ) → There (λ (k : Column). Unit {0}) (at j (o ∷ ks)) → (¬ SomeOf (λ (g : Given). g.column ≡ n + j) gs)
+        → (There (λ (k : Column). Unit {0}) o × (¬ SomeOf (λ (g : Given). g.column ≡ n) gs)) ⊎ Unnamed gs (suc n) ks
     back zero h k = inl (h, moved (n + zero) n (omega arith) k)
     back (suc j) h k = inr (j, h, moved (n + suc j) (suc n + j) (omega arith) k)
 
 pub unnamed_reflects : (gs : List Given) (t : Table)
-    → Reflects (unnamed gs zero t.columns) ((j : ℕ) × Visible t j × (¬ Some (λ (g : Given). g.column ≡ j) gs))
+    → Reflects (unnamed gs zero t.columns) ((j : ℕ) × Visible t j × (¬ SomeOf (λ (g : Given). g.column ≡ j) gs))
 unnamed_reflects gs t =
     reworded (unnamed-from gs zero t.columns)
     (λ h. (h.0, h.1, (numbered h.0).0 h.2))
     (λ h. (h.0, h.1, (numbered h.0).1 h.2))
   where
-    numbered : (j : ℕ) → (¬ Some (λ (g : Given). g.column ≡ zero + j) gs) ↔ (¬ Some (λ (g : Given). g.column ≡ j) gs)
+    numbered : (j : ℕ) → (¬ SomeOf (λ (g : Given). g.column ≡ zero + j) gs) ↔ (¬ SomeOf (λ (g : Given). g.column ≡ j) gs)
     numbered j = rw (zero-add j) (λ h. h, λ h. h)
 
 -- ---- 9: a value that does not fit
@@ -123,17 +123,17 @@ misfit_reflects t j (new_field f) = brought t j (new_field f) f.value (inr (f.cl
     came v = ⊎_elim (λ e. clash (cc e)) (λ e. let q : record { class = e.0; value = v } ≡ f = cc e.1 in λ i. (q i).value)
 
 -- ---- 10 and 11: no berth, no room in it
-pub berth_reflects : (c : Class) (l : Places Class) → Reflects (any (sure (same c)) l) ((i : ℕ) × (at i l ≡ some c))
+pub berth_reflects : (c : Class) (l : Places Class) → Reflects (any (sure (same c)) l) ((i : ℕ) × (at i l ≡ Some c))
 berth_reflects c [] = never (λ h. nothing_is h.1)
 berth_reflects c (o ∷ l) =
     reworded (or_reflects (sure_reflects (same_reflects c) o) (berth_reflects c l))
-    (⊎_elim (λ h. (zero, h.1 ∙ ap some (sym h.2))) (λ h. (suc h.0, h.1))) (λ h. back h.0 h.1)
+    (⊎_elim (λ h. (zero, h.1 ∙ ap Some (sym h.2))) (λ h. (suc h.0, h.1))) (λ h. back h.0 h.1)
   where
-    back : (i : ℕ) → at i (o ∷ l) ≡ some c → There (λ (b : Class). c ≡ b) o ⊎ ((i : ℕ) × (at i l ≡ some c))
+    back : (i : ℕ) → at i (o ∷ l) ≡ Some c → There (λ (b : Class). c ≡ b) o ⊎ ((i : ℕ) × (at i l ≡ Some c))
     back zero e = inl (c, e, refl)
     back (suc i) e = inr (i, e)
 
-pub no_berth_reflects : (c : Class) (t : Table) → Reflects (no_berth c t) (¬ ((i : ℕ) × (at i t.berths ≡ some c)))
+pub no_berth_reflects : (c : Class) (t : Table) → Reflects (no_berth c t) (¬ ((i : ℕ) × (at i t.berths ≡ Some c)))
 unfolding no_berth
 no_berth_reflects c t = not_reflects (berth_reflects c t.berths)
 
@@ -184,23 +184,23 @@ uncovers_reflects e r = uncovers_at_lem e.new (at e.column r.fields)
 -- ---- 6 and 9 of a condition, and 1
 pub asks_unseen_reflects : (t : Table) (q : Option Condition) → Reflects (asks_unseen t q) (There (λ (x : Condition). ¬ Visible t x.column) q)
 unfolding asks_unseen
-asks_unseen_reflects t none = never (λ h. nothing_is h.1)
-asks_unseen_reflects t (some q) = sure_reflects (λ (x : Condition). no_column_reflects t x.column) (some q)
+asks_unseen_reflects t None = never (λ h. nothing_is h.1)
+asks_unseen_reflects t (Some q) = sure_reflects (λ (x : Condition). no_column_reflects t x.column) (Some q)
 
 pub asks_misfit_reflects : (t : Table) (q : Option Condition) → Reflects (asks_misfit t q) (There (λ (x : Condition). TakesNot t x.column x.value) q)
 unfolding asks_misfit
-asks_misfit_reflects t none = never (λ h. nothing_is h.1)
-asks_misfit_reflects t (some q) = sure_reflects (λ (x : Condition). misfit-value t x.column x.value) (some q)
+asks_misfit_reflects t None = never (λ h. nothing_is h.1)
+asks_misfit_reflects t (Some q) = sure_reflects (λ (x : Condition). misfit-value t x.column x.value) (Some q)
 
 -- a row is left out because its condition field is hidden
 pub left_out_reflects : (q : Option Condition) (rs : List Row)
-    → Reflects (any (unknown q) rs) (There (λ (x : Condition). Some (λ (r : Row). There (λ (f : Field). f.value ≡ Hidden) (at x.column r.fields)) rs) q)
+    → Reflects (any (unknown q) rs) (There (λ (x : Condition). SomeOf (λ (r : Row). There (λ (f : Field). f.value ≡ Hidden) (at x.column r.fields)) rs) q)
 unfolding unknown
-left_out_reflects none rs =
+left_out_reflects None rs =
     reworded (any_reflects {P = λ (r : Row). ⊥} (λ (r : Row). never (λ h. h)) rs) (λ h. absurd (nobody rs h)) (λ h. nothing_is h.1)
   where
-    nobody : (l : List Row) → ¬ Some (λ (r : Row). ⊥) l
+    nobody : (l : List Row) → ¬ SomeOf (λ (r : Row). ⊥) l
     nobody [] h = h
     nobody (r ∷ l) h = ⊎_elim (λ z. z) (nobody l) h
-left_out_reflects (some q) rs =
-    sure_reflects (λ (x : Condition). any_reflects (λ (r : Row). sure_reflects (λ (f : Field). hidden_reflects f.value) (at x.column r.fields)) rs) (some q)
+left_out_reflects (Some q) rs =
+    sure_reflects (λ (x : Condition). any_reflects (λ (r : Row). sure_reflects (λ (f : Field). hidden_reflects f.value) (at x.column r.fields)) rs) (Some q)

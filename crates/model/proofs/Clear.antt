@@ -3,7 +3,7 @@
 use mathlib.Core.Path.{◌∙◌, ◌≡◌, ap, refl}
 use mathlib.Core.Bool.{Bool, cond, false, not, true}
 use mathlib.Core.List.{List, [], ◌∷◌}
-use mathlib.Core.Option.{Option, none, some}
+use Rattle.std.specs.Prelude.{Option, None, Some}
 use Prim.Native.Nat.{ℕ}
 use Rattle.model.specs.declared.Class.{Class}
 use Rattle.model.specs.declared.Reply.{Reply}
@@ -45,12 +45,12 @@ checks_refuse w room c (delete is) t = refl
 checks_refuse w room c (update es) t = refl
 checks_refuse w room c (select q) t = refl
 
-pub passed : (w room : ℕ) (c : Class) (a : Action) (t : Table) → accepts (judge w room c a (some t)).reply ≡ true → Clear (table_checks w room c a t)
+pub passed : (w room : ℕ) (c : Class) (a : Action) (t : Table) → accepts (judge w room c a (Some t)).reply ≡ true → Clear (table_checks w room c a t)
 unfolding judge
 passed w room c a t e = clear (table_checks w room c a t) (accept a t) (checks_refuse w room c a t) e
 
 -- ---- and back
-pub clear_first : (l : List Check) → Clear l → first_of l ≡ none
+pub clear_first : (l : List Check) → Clear l → first_of l ≡ None
 clear_first [] h = refl
 clear_first (k ∷ ks) h = ap (λ (b : Bool). or_next b k.0 (first_of ks)) h.0 ∙ clear_first ks h.1
 
@@ -66,6 +66,6 @@ accept-accepts (select q) t = go (any (unknown q) t.rows)
     go true = refl
     go false = refl
 
-pub cleared : (w room : ℕ) (c : Class) (a : Action) (t : Table) → Clear (table_checks w room c a t) → accepts (judge w room c a (some t)).reply ≡ true
+pub cleared : (w room : ℕ) (c : Class) (a : Action) (t : Table) → Clear (table_checks w room c a t) → accepts (judge w room c a (Some t)).reply ≡ true
 unfolding judge decided
 cleared w room c a t h = ap (λ (o : Option Reply). accepts (decided o (accept a t)).reply) (clear_first (table_checks w room c a t) h) ∙ accept-accepts a t

@@ -3,7 +3,7 @@
 use mathlib.Core.Path.{◌∙◌, ◌≡◌, refl}
 use mathlib.Core.Bool.{Bool, cond, false, false≢true, true}
 use mathlib.Core.List.{[], ◌∷◌}
-use mathlib.Core.Option.{Option, none, some}
+use Rattle.std.specs.Prelude.{Option, None, Some}
 use Prim.Native.Nat.{◌%◌, ◌*◌, ◌+◌, ◌/◌, ◌<◌, ◌^◌, ◌≤◌, suc, zero, ℕ}
 use native.Mathlib.Nat.{div-lt_iff_lt-mul, le_antisymm, le-div_iff_mul-le, mod-eq_of_lt, pow-le-pow_right, pow-suc, zero-add, zero-mul}
 use native.Mathlib.Omega.{arith}
@@ -86,14 +86,14 @@ unfolding dec_text
 dec_leads zero = unfold leads_well digits places in refl
 dec_leads (suc v) = lead (places (suc v) (suc v)) (suc v) (places_lt (suc v)) (places_ge (suc v) (omega arith))
 
-pub dec_read : (limit v : ℕ) → v ≤ limit → read_dec limit (dec_text v) ≡ some v
+pub dec_read : (limit v : ℕ) → v ≤ limit → read_dec limit (dec_text v) ≡ Some v
 unfolding read_dec dec_value
 dec_read limit v h =
-    let e : num_from dec_digit 10 0 (dec_text v) ≡ some v = unfold dec_text in (read-digits dec_rule (places v v) 0 v ∙ rw (mod-eq_of_lt (places_lt v), zero-mul, zero-add)) in
+    let e : num_from dec_digit 10 0 (dec_text v) ≡ Some v = unfold dec_text in (read-digits dec_rule (places v v) 0 v ∙ rw (mod-eq_of_lt (places_lt v), zero-mul, zero-add)) in
     rw (dec_leads v, e, le-leb v limit h)
 
 -- a text that leads well is as long as its number's
-well_long : (s : Bytes) (v : ℕ) → leads_well s ≡ true → num_from dec_digit 10 0 s ≡ some v → places v v ≡ length s
+well_long : (s : Bytes) (v : ℕ) → leads_well s ≡ true → num_from dec_digit 10 0 s ≡ Some v → places v v ≡ length s
 unfolding leads_well num_from
 well_long [] v w h = absurd (false≢true w)
 well_long (b ∷ []) v w h =
@@ -102,30 +102,30 @@ well_long (b ∷ []) v w h =
 well_long (b ∷ a ∷ bs) v w h = go (dec_digit b) refl
   where
     go : (o : Option ℕ) → dec_digit b ≡ o → places v v ≡ suc (suc (length bs))
-    go (some d) e =
+    go (Some d) e =
         let k : ℕ = suc (length bs) in
         let p : 0 < 10 ^ k = pow_pos 10 k (omega arith) in
         let n : b ≡ 48 → ⊥ = eqb-false b 48 (not-true (eqb b 48) w) in
         let f : (d < 10) × (digit_byte d ≡ b) = dec_rule.back b d e in
         let g : 48 + d ≡ b = rw (lt-ltb d 10 f.0) at f.1 in
-        let h' : num_from dec_digit 10 (0 * 10 + d) (a ∷ bs) ≡ some v = rw e at h in
+        let h' : num_from dec_digit 10 (0 * 10 + d) (a ∷ bs) ≡ Some v = rw e at h in
         let r : v / 10 ^ k ≡ 0 * 10 + d = (digits-read dec_rule (a ∷ bs) (0 * 10 + d) v h').0 in
         let q : v / 10 ^ suc k ≡ 0 = (digits-read dec_rule (b ∷ a ∷ bs) 0 v h).0 in
         let x : 1 * 10 ^ k ≤ v = (le-div_iff_mul-le p).0 (omega arith) in
         let y : v < 1 * 10 ^ suc k = (div-lt_iff_lt-mul (pow_pos 10 (suc k) (omega arith))).0 (omega arith) in
         places_is (suc k) v (omega arith) (rw (pow-suc 10 k) (omega arith))
-    go none e = nothing_is (rw e at h)
+    go None e = nothing_is (rw e at h)
 
 -- what was read is within the limit, and is written as it stood
-pub dec_text_lem : (limit v : ℕ) (s : Bytes) → read_dec limit s ≡ some v → (v ≤ limit) × (dec_text v ≡ s)
+pub dec_text_lem : (limit v : ℕ) (s : Bytes) → read_dec limit s ≡ Some v → (v ≤ limit) × (dec_text v ≡ s)
 unfolding read_dec dec_value dec_text
 dec_text_lem limit v s h = let (e, k) = cond-some (leads_well s) (dec_value limit s) v h in go e (num_from dec_digit 10 0 s) refl k
   where
-    go : leads_well s ≡ true → (o : Option ℕ) → num_from dec_digit 10 0 s ≡ o → on_num o none (up_to limit) ≡ some v → (v ≤ limit) × (digits 10 (places v v) v ≡ s)
-    go e (some n) f k =
-        let (g, j) = cond-some (leb n limit) (some n) v k in
-        let f' : num_from dec_digit 10 0 s ≡ some v = f ∙ j in
+    go : leads_well s ≡ true → (o : Option ℕ) → num_from dec_digit 10 0 s ≡ o → on_num o None (up_to limit) ≡ Some v → (v ≤ limit) × (digits 10 (places v v) v ≡ s)
+    go e (Some n) f k =
+        let (g, j) = cond-some (leb n limit) (Some n) v k in
+        let f' : num_from dec_digit 10 0 s ≡ Some v = f ∙ j in
         let l : n ≤ limit = leb-true n limit g in
         let z : n ≡ v = cc in
         (omega arith, rw (well_long s v e f') (digits-read dec_rule s 0 v f').1)
-    go e none f k = nothing_is k
+    go e None f k = nothing_is k

@@ -4,7 +4,7 @@ use mathlib.Core.Path.{◌∙◌, ◌≡◌, ap, ap₂, refl, sym}
 use mathlib.Core.Logic.{inl, inr}
 use mathlib.Core.Bool.{Bool, ◌&&◌, ◌||◌, cond, false, false≢true, not, true}
 use mathlib.Core.List.{List, [], ◌∷◌}
-use mathlib.Core.Option.{Option, none, some}
+use Rattle.std.specs.Prelude.{Option, None, Some}
 use Prim.Native.Nat.{◌+◌, suc, zero, ℕ}
 use native.Mathlib.Nat.{add-suc, add-zero, suc-add, zero-add}
 use native.Mathlib.Omega.{arith}
@@ -21,7 +21,7 @@ use Rattle.model.specs.Commands.{Change, Condition, Given, New, delete, insert, 
 use Rattle.model.specs.Answers.{Shown, answer, meets, numbered_from}
 use Rattle.model.specs.Checks.{allows, checks, names, no_column, own, table_checks, takes_from, uncovers, uncovers_at, unnamed}
 use Rattle.model.specs.Effects.{amend, amend_row, change_table, edit, entry_for, fill, given, lets, new_row, new_rows, renew, renew_all, strike, touch}
-use Rattle.model.specs.Conditions.{Some, There, Visible}
+use Rattle.model.specs.Conditions.{SomeOf, There, Visible}
 use Rattle.model.specs.Plainly.{Met, amend_named, put_all, put_named, strike_named}
 use Rattle.model.specs.Claims.{DeleteDoes, InsertDoes, SelectDoes, UpdateDoes}
 use Rattle.model.proofs.Tests.{both, nor_fst, nor_snd, not-false, or-none}
@@ -33,7 +33,7 @@ use Rattle.model.proofs.Clear.{passed}
 use Rattle.model.proofs.WalkLaws.{walk_plainly}
 
 -- ---- a test of the row that stands at a number
-sure-not : {A : Type 0} (q : A → Bool) (o : Option A) (a : A) → o ≡ some a → sure (λ (x : A). not (q x)) o ≡ false → q a ≡ true
+sure-not : {A : Type 0} (q : A → Bool) (o : Option A) (a : A) → o ≡ Some a → sure (λ (x : A). not (q x)) o ≡ false → q a ≡ true
 sure-not q o a p h = not-false (q a) (rw p at h)
 
 -- ---- delete
@@ -52,7 +52,7 @@ module _ (c : Class) (ks : Places Column) where
 
   -- f and g do the same to each visible row, by its number and by what the client sees of it
   abbrev Agree : (f g : ℕ → Row → Option Row) → ℕ → List Row → Type 0
-  Agree f g k rs = (i : ℕ) (r : Row) → nth i (shown rs) ≡ some (cut c ks r) → f (k + i) r ≡ g (k + i) r
+  Agree f g k rs = (i : ℕ) (r : Row) → nth i (shown rs) ≡ Some (cut c ks r) → f (k + i) r ≡ g (k + i) r
 
   walk_agree : (f g : ℕ → Row → Option Row) (k : ℕ) (rs : List Row) → Agree f g k rs → edit c f k rs ≡ edit c g k rs
   unfolding edit touch view_row
@@ -60,7 +60,7 @@ module _ (c : Class) (ks : Places Column) where
   walk_agree f g k (r ∷ rs) h = go (dominates c r.exist) (λ n. walk_agree f g n rs) h
     where
       go : (b : Bool) → ((n : ℕ) → Agree f g n rs → edit c f n rs ≡ edit c g n rs)
-          → ((i : ℕ) (x : Row) → nth i (push (when b (cut c ks r)) (shown rs)) ≡ some (cut c ks x) → f (k + i) x ≡ g (k + i) x)
+          → ((i : ℕ) (x : Row) → nth i (push (when b (cut c ks r)) (shown rs)) ≡ Some (cut c ks x) → f (k + i) x ≡ g (k + i) x)
           → push (touch b f k r) (edit c f (tick b k) rs) ≡ push (touch b g k r) (edit c g (tick b k) rs)
       go true ih h =
           ap₂ push (rw (add-zero k) at (h zero r refl))
@@ -89,16 +89,16 @@ delete_does w room c is t e =
 abbrev entry : ℕ → ℕ → New → Change
 entry i j n = record { row = i; column = j; new = n }
 
-entry_passes : (p : Change → Bool) (es : List Change) → any p es ≡ false → (i j : ℕ) (n : New) → entry_for es i j ≡ some n → p (entry i j n) ≡ false
+entry_passes : (p : Change → Bool) (es : List Change) → any p es ≡ false → (i j : ℕ) (n : New) → entry_for es i j ≡ Some n → p (entry i j n) ≡ false
 unfolding entry_for
 entry_passes p [] h i j n e = nothing e
   where
-    nothing : none ≡ some n → p (entry i j n) ≡ false
+    nothing : None ≡ Some n → p (entry i j n) ≡ false
     nothing z = let y : ◌≡◌ {A = ℕ} 0 1 = cc in absurd (omega arith)
 entry_passes p (x ∷ es) h i j n e = go (eqb x.row i) (eqb x.column j) refl refl e (entry_passes p es (nor_snd (p x) (any p es) h) i j n)
   where
-    go : (a b : Bool) → eqb x.row i ≡ a → eqb x.column j ≡ b → cond (a && b) (some x.new) (entry_for es i j) ≡ some n
-        → (entry_for es i j ≡ some n → p (entry i j n) ≡ false) → p (entry i j n) ≡ false
+    go : (a b : Bool) → eqb x.row i ≡ a → eqb x.column j ≡ b → cond (a && b) (Some x.new) (entry_for es i j) ≡ Some n
+        → (entry_for es i j ≡ Some n → p (entry i j n) ≡ false) → p (entry i j n) ≡ false
     go true true u v z ih =
         let q : x.new ≡ n = cc in
         ap p (λ t. record { row = sym (eqb-true x.row i u) t; column = sym (eqb-true x.column j v) t; new = sym q t }) ∙ nor_fst (p x) (any p es) h
@@ -107,24 +107,24 @@ entry_passes p (x ∷ es) h i j n e = go (eqb x.row i) (eqb x.column j) refl ref
 
 -- fields that the client may change are put as named
 renew-put : (c : Class) (mine : Bool) (g : ℕ → Option New) (fs : Places Field)
-    → ((j : ℕ) (n : New) (f : Field) → g j ≡ some n → at j fs ≡ some f → lets c mine n f ≡ true) → renew_all c mine g fs ≡ put_all g fs
+    → ((j : ℕ) (n : New) (f : Field) → g j ≡ Some n → at j fs ≡ Some f → lets c mine n f ≡ true) → renew_all c mine g fs ≡ put_all g fs
 unfolding renew_all put_all renew put_named
 renew-put c mine g [] h = refl
 renew-put c mine g (o ∷ fs) h = ap₂ (λ (x : Option Field) (l : Places Field). x ∷ l) (one o (g zero) (λ n f. h zero n f)) (renew-put c mine (λ (j : ℕ). g (suc j)) fs (λ j. h (suc j)))
   where
-    one : (o : Option Field) (m : Option New) → ((n : New) (f : Field) → m ≡ some n → o ≡ some f → lets c mine n f ≡ true) → map_o (renew c mine m) o ≡ map_o (put_named m) o
-    one none m k = refl
-    one (some f) none k = refl
-    one (some f) (some n) k = rw (k n f refl refl)
+    one : (o : Option Field) (m : Option New) → ((n : New) (f : Field) → m ≡ Some n → o ≡ Some f → lets c mine n f ≡ true) → map_o (renew c mine m) o ≡ map_o (put_named m) o
+    one None m k = refl
+    one (Some f) None k = refl
+    one (Some f) (Some n) k = rw (k n f refl refl)
 
 at-view_fields : (c : Class) (j : ℕ) (ks : Places Column) (fs : Places Field) → at j (view_fields c ks fs) ≡ view_field c (at j ks) (at j fs)
 unfolding view_fields view_field
 at-view_fields c j [] fs = refl
 at-view_fields c j (k ∷ ks) [] = sym (no_field (at j (k ∷ ks)))
   where
-    no_field : (o : Option Column) → view_field c o none ≡ none
-    no_field none = refl
-    no_field (some x) = refl
+    no_field : (o : Option Column) → view_field c o None ≡ None
+    no_field None = refl
+    no_field (Some x) = refl
 at-view_fields c zero (k ∷ ks) (f ∷ fs) = refl
 at-view_fields c (suc j) (k ∷ ks) (f ∷ fs) = at-view_fields c j ks fs
 
@@ -138,7 +138,7 @@ module _ (c : Class) (mine : Bool) where
       go true p = p
       go false p = absurd (false≢true (sym (rw p at h)))
 
-  field-lets : (n : New) (f : Field) → (mine || takes_from c n (some (hide c f))) ≡ true → uncovers_at n (some (hide c f)) ≡ false → lets c mine n f ≡ true
+  field-lets : (n : New) (f : Field) → (mine || takes_from c n (Some (hide c f))) ≡ true → uncovers_at n (Some (hide c f)) ≡ false → lets c mine n f ≡ true
   unfolding takes_from uncovers_at lets hide
   field-lets (new_class k) f a b = both mine (dominates c f.class) (or-none mine a) (sees f b)
   field-lets (new_value v) f a b = a
@@ -152,18 +152,18 @@ module _ (c : Class) (ks : Places Column) (es : List Change) where
       → Agree c ks (amend c es) (amend_named es) zero rs
   unfolding amend amend_row amend_named own cut allows uncovers view_field
   amend-agree rs h6 h12 h13 i r e =
-      rw zero-add (ap (λ (fs : Places Field). some (record { exist = r.exist; fields = fs })) (renew-put c (own c r) (entry_for es i) r.fields each))
+      rw zero-add (ap (λ (fs : Places Field). Some (record { exist = r.exist; fields = fs })) (renew-put c (own c r) (entry_for es i) r.fields each))
     where
-      each : (j : ℕ) (n : New) (f : Field) → entry_for es i j ≡ some n → at j r.fields ≡ some f → lets c (own c r) n f ≡ true
+      each : (j : ℕ) (n : New) (f : Field) → entry_for es i j ≡ Some n → at j r.fields ≡ Some f → lets c (own c r) n f ≡ true
       each j n f p q =
           let there = not-false (present (at j ks)) (entry_passes (λ (e : Change). not (present (at e.column ks))) es h6 i j n p) in
           let may = sure-not (allows c (entry i j n)) (nth i (shown c ks rs)) (cut c ks r) e (entry_passes (λ (e : Change). sure (λ (r : Row). not (allows c e r)) (nth e.row (shown c ks rs))) es h12 i j n p) in
           let hid = rw e at (entry_passes (λ (e : Change). sure (uncovers e) (nth e.row (shown c ks rs))) es h13 i j n p) in
           go (at j ks) there (rw (at-view_fields, q) at may) (rw (at-view_fields, q) at hid)
         where
-          go : (k : Option Column) → present k ≡ true → (own c r || takes_from c n (view_field c k (some f))) ≡ true → uncovers_at n (view_field c k (some f)) ≡ false → lets c (own c r) n f ≡ true
-          go none y a b = absurd (false≢true y)
-          go (some k) y a b = field-lets c (own c r) n f a b
+          go : (k : Option Column) → present k ≡ true → (own c r || takes_from c n (view_field c k (Some f))) ≡ true → uncovers_at n (view_field c k (Some f)) ≡ false → lets c (own c r) n f ≡ true
+          go None y a b = absurd (false≢true y)
+          go (Some k) y a b = field-lets c (own c r) n f a b
 
 pub update_does : UpdateDoes
 unfolding change_table new_rows open_table table_checks checks no_column
@@ -182,17 +182,17 @@ fill-at g zero (o ∷ ks) = refl
 fill-at g (suc j) (o ∷ ks) = fill-at (λ (i : ℕ). g (suc i)) j ks
 
 -- the field given for a column is that of an entry which names it
-given-named : (gs : List Given) (j : ℕ) → names gs j ≡ true → Some (λ (g : Given). (g.column ≡ j) × (given gs j ≡ some g.field)) gs
+given-named : (gs : List Given) (j : ℕ) → names gs j ≡ true → SomeOf (λ (g : Given). (g.column ≡ j) × (given gs j ≡ Some g.field)) gs
 unfolding names given
 given-named [] j e = absurd (false≢true e)
 given-named (g ∷ gs) j e = go (eqb g.column j) refl e (given-named gs j)
   where
-    go : (b : Bool) → eqb g.column j ≡ b → (b || names gs j) ≡ true → (names gs j ≡ true → Some (λ (h : Given). (h.column ≡ j) × (given gs j ≡ some h.field)) gs)
-        → Some (λ (h : Given). (h.column ≡ j) × (cond b (some g.field) (given gs j) ≡ some h.field)) (g ∷ gs)
+    go : (b : Bool) → eqb g.column j ≡ b → (b || names gs j) ≡ true → (names gs j ≡ true → SomeOf (λ (h : Given). (h.column ≡ j) × (given gs j ≡ Some h.field)) gs)
+        → SomeOf (λ (h : Given). (h.column ≡ j) × (cond b (Some g.field) (given gs j) ≡ Some h.field)) (g ∷ gs)
     go true p e ih = inl (eqb-true g.column j p, refl)
     go false p e ih = inr (ih e)
 
-not-given : (gs : List Given) (j : ℕ) → names gs j ≡ false → given gs j ≡ none
+not-given : (gs : List Given) (j : ℕ) → names gs j ≡ false → given gs j ≡ None
 unfolding names given
 not-given [] j e = refl
 not-given (g ∷ gs) j e = rw (nor_fst (eqb g.column j) (names gs j) e) (not-given gs j (nor_snd (eqb g.column j) (names gs j) e))
@@ -218,26 +218,26 @@ only-named ks (g ∷ gs) h j p = go (eqb g.column j) refl p (only-named ks gs (n
     go false q p ih = ih p
 
 -- a column that the client sees is the stored one
-column-stored : (c : Class) (t : Table) (j : ℕ) (k : Column) → at j (open_table c t).columns ≡ some k → at j t.columns ≡ some k
+column-stored : (c : Class) (t : Table) (j : ℕ) (k : Column) → at j (open_table c t).columns ≡ Some k → at j t.columns ≡ Some k
 unfolding open_table view_columns view_column
 column-stored c t j k e = go (at j t.columns) (rw (at-on_places (view_column (view_groups c t.groups))) at e)
   where
-    one : (b : Bool) (x : Column) → when b x ≡ some k → some x ≡ some k
+    one : (b : Bool) (x : Column) → when b x ≡ Some k → Some x ≡ Some k
     one true x e = e
     one false x e = let y : ◌≡◌ {A = ℕ} 0 1 = cc in absurd (omega arith)
 
-    go : (o : Option Column) → and_then o (λ (x : Column). when (present (at x.group (view_groups c t.groups))) x) ≡ some k → o ≡ some k
-    go none e = e
-    go (some x) e = one (present (at x.group (view_groups c t.groups))) x e
+    go : (o : Option Column) → and_then o (λ (x : Column). when (present (at x.group (view_groups c t.groups))) x) ≡ Some k → o ≡ Some k
+    go None e = e
+    go (Some x) e = one (present (at x.group (view_groups c t.groups))) x e
 
-some-map : {A : Type 0} (P Q : A → Type 0) → ((a : A) → P a → Q a) → (l : List A) → Some P l → Some Q l
+some-map : {A : Type 0} (P Q : A → Type 0) → ((a : A) → P a → Q a) → (l : List A) → SomeOf P l → SomeOf Q l
 some-map P Q f [] h = h
 some-map P Q f (a ∷ l) (inl h) = inl (f a h)
 some-map P Q f (a ∷ l) (inr h) = inr (some-map P Q f l h)
 
 seen-present : {A : Type 0} (o : Option A) → present o ≡ true → There (λ (a : A). Unit {0}) o
-seen-present none e = absurd (false≢true e)
-seen-present (some a) e = (a, refl, tt)
+seen-present None e = absurd (false≢true e)
+seen-present (Some a) e = (a, refl, tt)
 
 pub insert_does : InsertDoes
 unfolding change_table new_rows new_row table_checks checks no_column
@@ -249,15 +249,15 @@ insert_does w room c gs t e =
     ks = (open_table c t).columns
 
     given-there : unnamed gs zero ks ≡ false → (j : ℕ) → Visible (open_table c t) j
-        → Some (λ (g : Given). (g.column ≡ j) × (at j (fill (given gs) t.columns) ≡ some g.field)) gs
+        → SomeOf (λ (g : Given). (g.column ≡ j) × (at j (fill (given gs) t.columns) ≡ Some g.field)) gs
     given-there h j (k, p, u) =
         let named = rw zero-add at (all_named gs zero ks h j (rw p)) in
-        some-map (λ (g : Given). (g.column ≡ j) × (given gs j ≡ some g.field)) _
+        some-map (λ (g : Given). (g.column ≡ j) × (given gs j ≡ Some g.field)) _
         (λ g x. (x.0, fill-at (given gs) j t.columns ∙ rw (column-stored c t j k p, x.1)))
         gs (given-named gs j named)
 
-    default-there : any (λ (g : Given). not (present (at g.column ks))) gs ≡ false → (j : ℕ) (k : Column) → at j t.columns ≡ some k → ¬ Visible (open_table c t) j
-        → at j (fill (given gs) t.columns) ≡ some k.default
+    default-there : any (λ (g : Given). not (present (at g.column ks))) gs ≡ false → (j : ℕ) (k : Column) → at j t.columns ≡ Some k → ¬ Visible (open_table c t) j
+        → at j (fill (given gs) t.columns) ≡ Some k.default
     default-there h j k p unseen =
         fill-at (given gs) j t.columns
         ∙ rw (p, not-given gs j (fails-unless (names gs j) (λ n. unseen (seen-present (at j ks) (only-named ks gs h j n)))))
@@ -269,8 +269,8 @@ insert_does w room c gs t e =
 -- ---- select
 meets_met : (q : Option Condition) (r : Row) → Reflects (meets q r) (Met q r)
 unfolding meets
-meets_met none r = always tt
-meets_met (some q) r =
+meets_met None r = always tt
+meets_met (Some q) r =
     sure_reflects
     (λ (f : Field). and_reflects (not_reflects (hidden_reflects f.value)) (λ e. e, λ e. e))
     (at q.column r.fields)
@@ -283,19 +283,19 @@ module _ (q : Option Condition) where
   stay x = when (meets q x.row) x
 
   -- the rows from number n on
-  found-down : (n m : ℕ) (r : Row) (rows : List Row) → Some (Answers m r) (gather stay (numbered_from n rows)) → (j : ℕ) × (m ≡ n + j) × (nth j rows ≡ some r) × Met q r
+  found-down : (n m : ℕ) (r : Row) (rows : List Row) → SomeOf (Answers m r) (gather stay (numbered_from n rows)) → (j : ℕ) × (m ≡ n + j) × (nth j rows ≡ Some r) × Met q r
   unfolding numbered_from
   found-down n m r [] h = absurd h
   found-down n m r (x ∷ rows) h = go (meets q x) refl h (found-down (suc n) m r rows)
     where
-      go : (b : Bool) → meets q x ≡ b → Some (Answers m r) (push (when b (record { number = n; row = x })) (gather stay (numbered_from (suc n) rows)))
-          → (Some (Answers m r) (gather stay (numbered_from (suc n) rows)) → (j : ℕ) × (m ≡ suc n + j) × (nth j rows ≡ some r) × Met q r)
-          → (j : ℕ) × (m ≡ n + j) × (nth j (x ∷ rows) ≡ some r) × Met q r
-      go true p (inl k) ih = (zero, sym k.0 ∙ omega arith, ap some k.1, rw k.1 at ((meets_met q x).0 p))
+      go : (b : Bool) → meets q x ≡ b → SomeOf (Answers m r) (push (when b (record { number = n; row = x })) (gather stay (numbered_from (suc n) rows)))
+          → (SomeOf (Answers m r) (gather stay (numbered_from (suc n) rows)) → (j : ℕ) × (m ≡ suc n + j) × (nth j rows ≡ Some r) × Met q r)
+          → (j : ℕ) × (m ≡ n + j) × (nth j (x ∷ rows) ≡ Some r) × Met q r
+      go true p (inl k) ih = (zero, sym k.0 ∙ omega arith, ap Some k.1, rw k.1 at ((meets_met q x).0 p))
       go true p (inr k) ih = let (j, e, f, g) = ih k in (suc j, e ∙ omega arith, f, g)
       go false p k ih = let (j, e, f, g) = ih k in (suc j, e ∙ omega arith, f, g)
 
-  found_up : (n j : ℕ) (r : Row) (rows : List Row) → nth j rows ≡ some r → Met q r → Some (Answers (n + j) r) (gather stay (numbered_from n rows))
+  found_up : (n j : ℕ) (r : Row) (rows : List Row) → nth j rows ≡ Some r → Met q r → SomeOf (Answers (n + j) r) (gather stay (numbered_from n rows))
   unfolding numbered_from
   found_up n j r [] e h = nothing_is e
   found_up n zero r (x ∷ rows) e h =
@@ -303,7 +303,7 @@ module _ (q : Option Condition) where
       rw (z, (meets_met q r).1 h) (inl (omega arith, refl))
   found_up n (suc j) r (x ∷ rows) e h = later (meets q x) (let y : suc n + j ≡ n + suc j = omega arith in rw y at (found_up (suc n) j r rows e h))
     where
-      later : (b : Bool) → Some (Answers (n + suc j) r) (gather stay (numbered_from (suc n) rows)) → Some (Answers (n + suc j) r) (push (when b (record { number = n; row = x })) (gather stay (numbered_from (suc n) rows)))
+      later : (b : Bool) → SomeOf (Answers (n + suc j) r) (gather stay (numbered_from (suc n) rows)) → SomeOf (Answers (n + suc j) r) (push (when b (record { number = n; row = x })) (gather stay (numbered_from (suc n) rows)))
       later true k = inr k
       later false k = k
 

@@ -3,7 +3,7 @@
 use mathlib.Core.Path.{◌≡◌, refl}
 use mathlib.Core.Bool.{Bool, ◌&&◌, cond, false, not, true}
 use mathlib.Core.List.{List, [], ◌∷◌}
-use mathlib.Core.Option.{Option, none, some}
+use Rattle.std.specs.Prelude.{Option, None, Some}
 use Prim.Native.Nat.{◌≤◌, zero, ℕ}
 use native.Mathlib.Nat.{le_refl, le_trans}
 use lib.Dec.{eqb}
@@ -84,8 +84,8 @@ entry_passes i j p q each (e ∷ es) h =
 pub renew_passes : (q : Field → Bool) (c : Class) (mine : Bool) (o : Option New) (f : Field)
     → unless (λ (n : New). q (put n f)) o ≡ true → q f ≡ true → q (renew c mine o f) ≡ true
 unfolding renew
-renew_passes q c mine none f h e = e
-renew_passes q c mine (some n) f h e = go (lets c mine n f)
+renew_passes q c mine None f h e = e
+renew_passes q c mine (Some n) f h e = go (lets c mine n f)
   where
     go : (b : Bool) → q (cond b (put n f) f) ≡ true
     go true = h

@@ -3,7 +3,7 @@
 use mathlib.Core.Path.{◌≡◌, ap, refl}
 use mathlib.Core.Bool.{Bool, true}
 use mathlib.Core.List.{List, [], ◌++◌, ◌∷◌, map}
-use mathlib.Core.Option.{none, some}
+use Rattle.std.specs.Prelude.{None, Some}
 use Rattle.model.specs.Places.{Places, all, all_in, conj, filled}
 use Rattle.model.specs.Conditions.{Every}
 use Rattle.model.proofs.Tests.{and-fst, and-snd, both}
@@ -42,39 +42,39 @@ module _ {A : Type 0} where
   -- ---- places
   abbrev pub EveryIn : (A → Type 0) → Places A → Type 0
   EveryIn P [] = Unit {0}
-  EveryIn P (none ∷ l) = EveryIn P l
-  EveryIn P (some a ∷ l) = P a × EveryIn P l
+  EveryIn P (None ∷ l) = EveryIn P l
+  EveryIn P (Some a ∷ l) = P a × EveryIn P l
 
   pub in_imp : (P Q : A → Type 0) → ((a : A) → P a → Q a) → (l : Places A) → EveryIn P l → EveryIn Q l
   in_imp P Q f [] h = tt
-  in_imp P Q f (none ∷ l) h = in_imp P Q f l h
-  in_imp P Q f (some a ∷ l) h = (f a h.0, in_imp P Q f l h.1)
+  in_imp P Q f (None ∷ l) h = in_imp P Q f l h
+  in_imp P Q f (Some a ∷ l) h = (f a h.0, in_imp P Q f l h.1)
 
   pub in_both : (P Q : A → Type 0) (l : Places A) → EveryIn P l → EveryIn Q l → EveryIn (λ (a : A). P a × Q a) l
   in_both P Q [] h k = tt
-  in_both P Q (none ∷ l) h k = in_both P Q l h k
-  in_both P Q (some a ∷ l) h k = ((h.0, k.0), in_both P Q l h.1 k.1)
+  in_both P Q (None ∷ l) h k = in_both P Q l h k
+  in_both P Q (Some a ∷ l) h k = ((h.0, k.0), in_both P Q l h.1 k.1)
 
   pub in_true : (p : A → Bool) (l : Places A) → all_in p l ≡ true → EveryIn (λ (a : A). p a ≡ true) l
   in_true p [] e = tt
-  in_true p (none ∷ l) e = in_true p l e
-  in_true p (some a ∷ l) e = (and-fst (p a) (all_in p l) e, in_true p l (and-snd (p a) (all_in p l) e))
+  in_true p (None ∷ l) e = in_true p l e
+  in_true p (Some a ∷ l) e = (and-fst (p a) (all_in p l) e, in_true p l (and-snd (p a) (all_in p l) e))
 
   pub true_in : (p : A → Bool) (l : Places A) → EveryIn (λ (a : A). p a ≡ true) l → all_in p l ≡ true
   true_in p [] h = refl
-  true_in p (none ∷ l) h = true_in p l h
-  true_in p (some a ∷ l) h = both (p a) (all_in p l) h.0 (true_in p l h.1)
+  true_in p (None ∷ l) h = true_in p l h
+  true_in p (Some a ∷ l) h = both (p a) (all_in p l) h.0 (true_in p l h.1)
 
   -- the parts that are there, as a list
   pub every_filled : (P : A → Type 0) (l : Places A) → EveryIn P l → Every P (filled l)
   every_filled P [] h = tt
-  every_filled P (none ∷ l) h = every_filled P l h
-  every_filled P (some a ∷ l) h = (h.0, every_filled P l h.1)
+  every_filled P (None ∷ l) h = every_filled P l h
+  every_filled P (Some a ∷ l) h = (h.0, every_filled P l h.1)
 
   pub filled_every : (P : A → Type 0) (l : Places A) → Every P (filled l) → EveryIn P l
   filled_every P [] h = tt
-  filled_every P (none ∷ l) h = filled_every P l h
-  filled_every P (some a ∷ l) h = (h.0, filled_every P l h.1)
+  filled_every P (None ∷ l) h = filled_every P l h
+  filled_every P (Some a ∷ l) h = (h.0, filled_every P l h.1)
 
 module _ {A B : Type 0} where
   pub every_map : (P : A → Type 0) (Q : B → Type 0) (f : A → B) → ((a : A) → P a → Q (f a)) → (l : List A) → Every P l → Every Q (map f l)

@@ -4,7 +4,7 @@
 use mathlib.Core.Path.{◌∙◌, ◌≡◌, ap, refl, sym}
 use mathlib.Core.Bool.{Bool, cond, false, false≢true, true}
 use mathlib.Core.List.{[], ◌∷◌}
-use mathlib.Core.Option.{Option, none, some}
+use Rattle.std.specs.Prelude.{Option, None, Some}
 use Prim.Native.Nat.{suc, zero, ℕ}
 use lib.Dec.{eqb}
 use lib.ListN.{length}
@@ -32,7 +32,7 @@ use Rattle.model.proofs.OptionLaws.{nothing_is}
 use Rattle.model.proofs.Clear.{accept-accepts, passed}
 
 -- ---- a place that is changed, and the others
-at-emptied : {A : Type 0} (n : ℕ) (l : Places A) → at n (emptied l) ≡ none
+at-emptied : {A : Type 0} (n : ℕ) (l : Places A) → at n (emptied l) ≡ None
 at-emptied n [] = refl
 at-emptied zero (o ∷ l) = refl
 at-emptied (suc n) (o ∷ l) = at-emptied n l
@@ -61,8 +61,8 @@ module _ (d n : ℕ) (f : Table → Table) (s : Store) where
     where
       go : (o : Option Directory)
           → and_then (map_o (change_directory n f) o) (λ (x : Directory). at n x.tables) ≡ map_o f (and_then o (λ (x : Directory). at n x.tables))
-      go none = refl
-      go (some x) = at-altered f n x.tables
+      go None = refl
+      go (Some x) = at-altered f n x.tables
 
   table_unchanged : (e m : ℕ) → ¬ ((e ≡ d) × (m ≡ n)) → table_at e m changes ≡ table_at e m s
   unfolding table_at change_directory
@@ -70,8 +70,8 @@ module _ (d n : ℕ) (f : Table → Table) (s : Store) where
     where
       here : ¬ (m ≡ n) → (o : Option Directory)
           → and_then (map_o (change_directory n f) o) (λ (x : Directory). at m x.tables) ≡ and_then o (λ (x : Directory). at m x.tables)
-      here h none = refl
-      here h (some x) = at_unaltered f m n x.tables h
+      here h None = refl
+      here h (Some x) = at_unaltered f m n x.tables h
 
       go : (b : Bool) → eqb e d ≡ b → table_at e m changes ≡ table_at e m s
       go true p =
@@ -80,28 +80,28 @@ module _ (d n : ℕ) (f : Table → Table) (s : Store) where
       go false p = rw (at_unaltered (change_directory n f) e d s (eqb-false e d p))
 
 -- ---- what a client finds at a place is the view of what is stored there
-table-seen : (c : Class) (d n : ℕ) (s : Store) (y : Table) → table_at d n (view c s) ≡ some y
-    → (t : Table) × (table_at d n s ≡ some t) × (view_table c t ≡ y)
+table-seen : (c : Class) (d n : ℕ) (s : Store) (y : Table) → table_at d n (view c s) ≡ Some y
+    → (t : Table) × (table_at d n s ≡ Some t) × (view_table c t ≡ y)
 unfolding table_at view view_directory cut_directory view_tables keep_table
 table-seen c d n s y e = go (at d s) (rw (at-on_places (view_directory c)) at e)
   where
-    one : (o : Option Table) → and_then o (keep_table c) ≡ some y → (t : Table) × (o ≡ some t) × (view_table c t ≡ y)
-    one none h = nothing_is h
-    one (some t) h = (t, refl, cc)
+    one : (o : Option Table) → and_then o (keep_table c) ≡ Some y → (t : Table) × (o ≡ Some t) × (view_table c t ≡ y)
+    one None h = nothing_is h
+    one (Some t) h = (t, refl, cc)
 
     kept : (x : Directory) (a b : Bool)
         → and_then (when a (record { exist = x.exist; class = x.class; tables = cond b (on_places (keep_table c) x.tables) (emptied x.tables) }))
         (λ (z : Directory). at n z.tables)
-        ≡ some y
-        → (t : Table) × (at n x.tables ≡ some t) × (view_table c t ≡ y)
+        ≡ Some y
+        → (t : Table) × (at n x.tables ≡ Some t) × (view_table c t ≡ y)
     kept x true true h = one (at n x.tables) (rw (at-on_places (keep_table c)) at h)
     kept x true false h = nothing_is (sym (at-emptied n x.tables) ∙ h)
     kept x false b h = nothing_is h
 
-    go : (o : Option Directory) → and_then (and_then o (view_directory c)) (λ (z : Directory). at n z.tables) ≡ some y
-        → (t : Table) × (and_then o (λ (z : Directory). at n z.tables) ≡ some t) × (view_table c t ≡ y)
-    go none h = nothing_is h
-    go (some x) h = kept x (dominates c x.exist) (dominates c x.class) h
+    go : (o : Option Directory) → and_then (and_then o (view_directory c)) (λ (z : Directory). at n z.tables) ≡ Some y
+        → (t : Table) × (and_then o (λ (z : Directory). at n z.tables) ≡ Some t) × (view_table c t ≡ y)
+    go None h = nothing_is h
+    go (Some x) h = kept x (dominates c x.exist) (dominates c x.class) h
 
 -- the changed table stands where the command names it
 change-at : (s : Store) (k : Command)
@@ -112,24 +112,24 @@ change-at s k = table-changed k.directory k.table (change_table k.clearance k.ac
 -- ---- an accepted command
 module _ (w room : ℕ) (c : Class) (a : Action) where
   -- without a table, or with one of a class that is not dominated, a command is refused
-  accepted_open : (t : Table) → accepts (judge w room c a (some (view_table c t))).reply ≡ true → Accepts w room c a t
+  accepted_open : (t : Table) → accepts (judge w room c a (Some (view_table c t))).reply ≡ true → Accepts w room c a t
   unfolding view_table shut_table table_checks
   accepted_open t e = go (dominates c t.class) refl e
     where
       go : (b : Bool) → dominates c t.class ≡ b
-          → accepts (judge w room c a (some (cond b (open_table c t) (shut_table c t)))).reply ≡ true → Accepts w room c a t
+          → accepts (judge w room c a (Some (cond b (open_table c t) (shut_table c t)))).reply ≡ true → Accepts w room c a t
       go true p e = e
       go false p e = not-both (dominates c t.class) (not-false (dominates c t.class) (passed w room c a (shut_table c t) e).0) p
 
-  accepted_table : (o : Option Table) → accepts (judge w room c a o).reply ≡ true → (t : Table) × (o ≡ some t)
+  accepted_table : (o : Option Table) → accepts (judge w room c a o).reply ≡ true → (t : Table) × (o ≡ Some t)
   unfolding judge says accepts number
-  accepted_table none e = absurd (false≢true e)
-  accepted_table (some t) e = (t, refl)
+  accepted_table None e = absurd (false≢true e)
+  accepted_table (Some t) e = (t, refl)
 
 module _ (w room : ℕ) (s : Store) (k : Command) where
   -- an accepted command names a stored table of a class that its clearance dominates
   pub found : accepts (judgement w room s k).reply ≡ true
-      → (t : Table) × (table_at k.directory k.table s ≡ some t) × Accepts w room k.clearance k.action t
+      → (t : Table) × (table_at k.directory k.table s ≡ Some t) × Accepts w room k.clearance k.action t
   unfolding judgement
   found e =
       let (y, p) = accepted_table w room k.clearance k.action (table_at k.directory k.table (view k.clearance s)) e in
@@ -154,14 +154,14 @@ changes_nowhere_else w room s k d t other = go (accepts (judgement w room s k).r
 -- shows nothing
 shows_nothing : (l : Option Reply) (a : Action) (t : Table) → accepts (decided l (accept a t)).reply ≡ false → (decided l (accept a t)).shown ≡ []
 unfolding decided says
-shows_nothing (some r) a t e = refl
-shows_nothing none a t e = not-both (accepts (accept a t).reply) (accept-accepts a t) e
+shows_nothing (Some r) a t e = refl
+shows_nothing None a t e = not-both (accepts (accept a t).reply) (accept-accepts a t) e
 
 module _ (w room : ℕ) (s : Store) where
   judged-nothing : (c : Class) (a : Action) (o : Option Table) → accepts (judge w room c a o).reply ≡ false → (judge w room c a o).shown ≡ []
   unfolding judge says
-  judged-nothing c a none e = refl
-  judged-nothing c a (some t) e = shows_nothing (first_of (table_checks w room c a t)) a t e
+  judged-nothing c a None e = refl
+  judged-nothing c a (Some t) e = shows_nothing (first_of (table_checks w room c a t)) a t e
 
   line-left : (l : Line) → accepts (line_verdict w room s l).reply ≡ false → ((line_verdict w room s l).shown ≡ []) × (line_store w room s l ≡ s)
   unfolding line_verdict line_store says judgement changed
@@ -200,8 +200,8 @@ directories_stay w room s k d = go (accepts (judgement w room s k).reply)
     classes o = map_o classes_of o
 
     one : (o : Option Directory) → classes (map_o g o) ≡ classes o
-    one none = refl
-    one (some x) = refl
+    one None = refl
+    one (Some x) = refl
 
     altered : (n d : ℕ) (s : Store) → classes (at d (alter n (map_o g) s)) ≡ classes (at d s)
     altered n d [] = refl

@@ -3,7 +3,7 @@
 use mathlib.Core.Path.{◌≡◌, refl, subst}
 use mathlib.Core.Logic.{◌↔◌, inl, inr, ⊎_elim}
 use mathlib.Core.List.{List, [], ◌∷◌}
-use mathlib.Core.Option.{Option, some}
+use Rattle.std.specs.Prelude.{Option, Some}
 use Prim.Native.Nat.{◌<◌, ◌≤◌, suc, zero, ℕ}
 use native.Mathlib.Omega.{arith}
 use lib.ListN.{length}
@@ -12,7 +12,7 @@ use Rattle.model.specs.declared.Value.{Value}
 use Rattle.model.specs.Places.{nth}
 use Rattle.model.specs.Parts.{Column, Row, Table}
 use Rattle.model.specs.Commands.{Action, Change, Condition, Given, New, delete, insert, select, update}
-use Rattle.model.specs.Conditions.{Brings, Every, Good, GoodDelete, GoodInsert, GoodSelect, GoodUpdate, NoneHolds, Some, Takes, TakesNot, There, Visible, refusal_rows}
+use Rattle.model.specs.Conditions.{Brings, Every, Good, GoodDelete, GoodInsert, GoodSelect, GoodUpdate, NoneHolds, SomeOf, Takes, TakesNot, There, Visible, refusal_rows}
 use Rattle.model.specs.Claims.{AcceptedGood}
 use Rattle.model.proofs.OptionLaws.{nothing_is}
 use Rattle.model.proofs.Reflects.{surely}
@@ -32,14 +32,14 @@ fits_in m n h k = omega arith
 -- ---- lists, and what may be absent
 module _ {A : Type 0} where
   -- an element that has neither P nor R has Q
-  every_but : {P Q R : A → Type 0} → ((a : A) → (¬ P a) → (¬ R a) → Q a) → (l : List A) → ¬ Some P l → ¬ Some R l → Every Q l
+  every_but : {P Q R : A → Type 0} → ((a : A) → (¬ P a) → (¬ R a) → Q a) → (l : List A) → ¬ SomeOf P l → ¬ SomeOf R l → Every Q l
   every_but f [] h k = tt
   every_but f (a ∷ l) h k = (f a (λ p. h (inl p)) (λ r. k (inl r)), every_but f l (λ s. h (inr s)) (λ s. k (inr s)))
 
-  every_not : {P Q : A → Type 0} → ((a : A) → (¬ P a) → Q a) → (l : List A) → ¬ Some P l → Every Q l
+  every_not : {P Q : A → Type 0} → ((a : A) → (¬ P a) → Q a) → (l : List A) → ¬ SomeOf P l → Every Q l
   every_not f l h = every_but (λ a p r. f a p) l h h
 
-  not_some : {P Q : A → Type 0} → ((a : A) → Q a → ¬ P a) → (l : List A) → Every Q l → ¬ Some P l
+  not_some : {P Q : A → Type 0} → ((a : A) → Q a → ¬ P a) → (l : List A) → Every Q l → ¬ SomeOf P l
   not_some f [] q s = s
   not_some f (a ∷ l) q s = ⊎_elim (λ p. f a q.0 p) (not_some f l q.1) s
 
@@ -50,7 +50,7 @@ module _ {A : Type 0} where
     there-not : There P o → ¬ There (λ (a : A). ¬ P a) o
     there-not h k = let q : h.0 ≡ k.0 = cc (h.1, k.1) in k.2 (subst P q h.2)
 
-    not_there : ¬ There P o → (a : A) → o ≡ some a → ¬ P a
+    not_there : ¬ There P o → (a : A) → o ≡ Some a → ¬ P a
     not_there h a e p = h (a, e, p)
 
   nth-there : (l : List A) (i : ℕ) → ¬ (length l ≤ i) → There (λ (a : A). Unit {0}) (nth i l)
@@ -58,7 +58,7 @@ module _ {A : Type 0} where
   nth-there (a ∷ l) zero h = (a, refl, tt)
   nth-there (a ∷ l) (suc i) h = nth-there l i (λ k. h (omega arith))
 
-  nth_below : (l : List A) (i : ℕ) (a : A) → nth i l ≡ some a → ¬ (length l ≤ i)
+  nth_below : (l : List A) (i : ℕ) (a : A) → nth i l ≡ Some a → ¬ (length l ≤ i)
   nth_below [] i a e h = nothing_is e
   nth_below (a ∷ l) zero x e h = omega arith
   nth_below (a ∷ l) (suc i) x e h = nth_below l i x e (omega arith)

@@ -3,7 +3,7 @@
 use mathlib.Core.Path.{◌∙◌, ◌≡◌, ap, refl}
 use mathlib.Core.Bool.{Bool, cond, false, false≢true, true}
 use mathlib.Core.List.{List, [], ◌++◌, ◌∷◌}
-use mathlib.Core.Option.{Option, none, some}
+use Rattle.std.specs.Prelude.{Option, None, Some}
 use Prim.Native.Nat.{◌<◌, ◌≤◌, suc, zero, ℕ}
 use lib.Dec.{eqb, leb}
 use lib.ListN.{length}
@@ -43,7 +43,7 @@ put-fits k (new_field g) f h e = or_left (fits k g.value) (is_hidden g.value) h
 
 -- one field for each column, of its kind, where each entry found fits its column
 renewed_fits : (c : Class) (mine : Bool) (g : ℕ → Option New) (ks : Places Column) (fs : Places Field)
-    → ((j : ℕ) (k : Column) → at j ks ≡ some k → unless (new_fits k.kind) (g j) ≡ true)
+    → ((j : ℕ) (k : Column) → at j ks ≡ Some k → unless (new_fits k.kind) (g j) ≡ true)
     → fields_ok ks fs ≡ true → fields_ok ks (renew_all c mine g fs) ≡ true
 unfolding fields_ok field_ok renew_all
 renewed_fits c mine g [] [] h e = e
@@ -56,24 +56,24 @@ renewed_fits c mine g (k ∷ ks) (f ∷ fs) h e =
   where
     each : (k : Kind) (f : Field) (o : Option New)
         → unless (new_fits k) o ≡ true → value_ok k f.value ≡ true → unless (λ (n : New). value_ok k (put n f).value) o ≡ true
-    each k f none h e = refl
-    each k f (some n) h e = put-fits k n f h e
+    each k f None h e = refl
+    each k f (Some n) h e = put-fits k n f h e
 
-    one : (k : Option Column) (f : Option Field) → ((x : Column) → k ≡ some x → unless (new_fits x.kind) (g zero) ≡ true)
+    one : (k : Option Column) (f : Option Field) → ((x : Column) → k ≡ Some x → unless (new_fits x.kind) (g zero) ≡ true)
         → field_ok k f ≡ true → field_ok k (map_o (renew c mine (g zero)) f) ≡ true
-    one none none h e = e
-    one none (some f) h e = e
-    one (some k) none h e = e
-    one (some k) (some f) h e = renew_passes (λ (f : Field). value_ok k.kind f.value) c mine (g zero) f (each k.kind f (g zero) (h k refl) e) e
+    one None None h e = e
+    one None (Some f) h e = e
+    one (Some k) None h e = e
+    one (Some k) (Some f) h e = renew_passes (λ (f : Field). value_ok k.kind f.value) c mine (g zero) f (each k.kind f (g zero) (h k refl) e) e
 
 -- ---- insert
 fill-fits : (g : ℕ → Option Field) (ks : Places Column)
-    → ((j : ℕ) (k : Column) → at j ks ≡ some k → fits k.kind (or_else (g j) k.default).value ≡ true)
+    → ((j : ℕ) (k : Column) → at j ks ≡ Some k → fits k.kind (or_else (g j) k.default).value ≡ true)
     → fields_ok ks (fill g ks) ≡ true
 unfolding fields_ok field_ok value_ok fill
 fill-fits g [] h = refl
-fill-fits g (none ∷ ks) h = fill-fits (λ (j : ℕ). g (suc j)) ks (λ j. h (suc j))
-fill-fits g (some k ∷ ks) h =
+fill-fits g (None ∷ ks) h = fill-fits (λ (j : ℕ). g (suc j)) ks (λ j. h (suc j))
+fill-fits g (Some k ∷ ks) h =
     both (value_ok k.kind x.value) (fields_ok ks (fill (λ (j : ℕ). g (suc j)) ks)) (or_left (fits k.kind x.value) (is_hidden x.value) (h zero k refl))
     (fill-fits (λ (j : ℕ). g (suc j)) ks (λ j. h (suc j)))
   where
@@ -105,7 +105,7 @@ module _ (c : Class) (t : Table) where
       (λ a. sure_passes (λ (k : Column). new_fits k.kind (n a)) (at (j a) (open_table c t).columns))
 
   -- and so does the stored column
-  fits-stored : (i j : ℕ) (n : New) (k : Column) → at j t.columns ≡ some k → i ≡ j → fitting i n ≡ true → new_fits k.kind n ≡ true
+  fits-stored : (i j : ℕ) (n : New) (k : Column) → at j t.columns ≡ Some k → i ≡ j → fitting i n ≡ true → new_fits k.kind n ≡ true
   unfolding open_table view_columns view_column
   fits-stored i j n k p x e = stays (at i t.columns) (rw x p) (rw (at-on_places (view_column (view_groups c t.groups))) at e)
     where
@@ -116,7 +116,7 @@ module _ (c : Class) (t : Table) where
       one true e = e
       one false e = absurd (false≢true e)
 
-      stays : (o : Option Column) → o ≡ some k → sure q (and_then o (view_column (view_groups c t.groups))) ≡ true → q k ≡ true
+      stays : (o : Option Column) → o ≡ Some k → sure q (and_then o (view_column (view_groups c t.groups))) ≡ true → q k ≡ true
       stays o p e = one (present (at k.group (view_groups c t.groups))) (rw p at e)
 
   -- 10
@@ -129,8 +129,8 @@ module _ (c : Class) (t : Table) where
       was b false h = absurd (false≢true h)
 
       one : (o : Option Class) → sure (same c) (and_then o (seen c)) ≡ true → sure (same c) o ≡ true
-      one none h = h
-      one (some b) h = was b (dominates c b) h
+      one None h = h
+      one (Some b) h = was b (dominates c b) h
 
       go : (l : Places Class) → any (sure (same c)) (on_places (seen c) l) ≡ true → any (sure (same c)) l ≡ true
       go [] h = h
@@ -167,7 +167,7 @@ module _ (c : Class) (t : Table) (f : TableRules t) where
       new : Row
       new = new_row c gs t.columns
 
-      fit : (j : ℕ) (k : Column) → at j t.columns ≡ some k → fits k.kind (or_else (given gs j) k.default).value ≡ true
+      fit : (j : ℕ) (k : Column) → at j t.columns ≡ Some k → fits k.kind (or_else (given gs j) k.default).value ≡ true
       fit j k p =
           or_else_passes (λ (x : Field). fits k.kind x.value) (given gs j) k.default
           (given_passes j (λ (g : Given). fitting c t g.column (new_field g.field)) (λ (x : Field). fits k.kind x.value)
@@ -244,10 +244,10 @@ module _ (w room : ℕ) (s : Store) (k : Command) where
       d : Directory → Directory
       d = change_directory k.table g
 
-      here : (x : Directory) (t : Table) → at k.directory s ≡ some x → at k.table x.tables ≡ some t → Accepts w room k.clearance k.action t
+      here : (x : Directory) (t : Table) → at k.directory s ≡ Some x → at k.table x.tables ≡ Some t → Accepts w room k.clearance k.action t
       here x t p q =
           let (y, r, z) = found w room s k e in
-          let u : table_at k.directory k.table s ≡ some t = rw (p, q) in
+          let u : table_at k.directory k.table s ≡ Some t = rw (p, q) in
           let v : y ≡ t = cc in
           rw v at z
 

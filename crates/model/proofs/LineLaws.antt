@@ -3,7 +3,7 @@
 use mathlib.Core.Path.{◌∙◌, ◌≡◌, ap, ap₂, refl}
 use mathlib.Core.Bool.{Bool, false, false≢true, true}
 use mathlib.Core.List.{List, [], ◌++◌, ◌∷◌, append_assoc, append-nil}
-use mathlib.Core.Option.{some}
+use Rattle.std.specs.Prelude.{Some}
 use Prim.Native.Nat.{◌<◌, ◌≤◌, ℕ}
 use native.Mathlib.Omega.{arith}
 use lib.Dec.{eqb}
@@ -84,7 +84,7 @@ line-free (x ∷ xs) h = every_append (λ (b : ℕ). eqb b 10 ≡ false) x (flat
     go (y ∷ ys) k = (refl, every_append (λ (b : ℕ). eqb b 10 ≡ false) y (flat (λ (z : Bytes). 9 ∷ z) ys) (clean_free 10 y (omega arith) k.0) (go ys k.1))
 
 -- ---- lines
-whole_join : (ms ls : List Bytes) → whole ms ≡ some ls → unlines ls ≡ join 10 ms
+whole_join : (ms ls : List Bytes) → whole ms ≡ Some ls → unlines ls ≡ join 10 ms
 unfolding whole unlines join
 whole_join [] ls e = nothing_is e
 whole_join ([] ∷ []) ls e = let q : [] ≡ ls = cc in rw (← q)
@@ -94,11 +94,11 @@ whole_join (l ∷ m ∷ ms) ls e =
     rw (← q, whole_join (m ∷ ms) x p) (append_assoc l (10 ∷ []) (join 10 (m ∷ ms)))
 
 -- a text that has lines is those lines
-pub lines-unlines : (bs : Bytes) (ls : List Bytes) → lines bs ≡ some ls → unlines ls ≡ bs
+pub lines-unlines : (bs : Bytes) (ls : List Bytes) → lines bs ≡ Some ls → unlines ls ≡ bs
 unfolding lines
 lines-unlines bs ls e = whole_join (split 10 bs) ls e ∙ join-split 10 bs
 
-pub unlines-lines : (ls : List Bytes) → Every (Free 10) ls → lines (unlines ls) ≡ some ls
+pub unlines-lines : (ls : List Bytes) → Every (Free 10) ls → lines (unlines ls) ≡ Some ls
 unfolding lines unlines whole
 unlines-lines [] h = unfold split in refl
 unlines-lines (l ∷ ls) h =

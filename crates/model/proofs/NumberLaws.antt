@@ -3,7 +3,7 @@
 use mathlib.Core.Path.{◌∙◌, ◌≡◌, ap, refl, subst, sym}
 use mathlib.Core.Bool.{Bool, cond, false, false≢true, true}
 use mathlib.Core.List.{List, [], ◌∷◌}
-use mathlib.Core.Option.{Option, none, some}
+use Rattle.std.specs.Prelude.{Option, None, Some}
 use Prim.Native.Nat.{◌%◌, ◌*◌, ◌+◌, ◌-◌, ◌/◌, ◌<◌, ◌^◌, ◌≤◌, suc, zero, ℕ}
 use native.Mathlib.Nat.{add_assoc, add-mul, add-zero, div-div-eq-div-mul, div-lt_iff_lt-mul, div-one, mod-eq_of_lt, mod-lt, mod-one, mul_assoc, mul_comm, mul-one, mul-pos, pow-suc, pow-zero, zero-add, zero-mul}
 use native.Mathlib.Omega.{arith}
@@ -39,16 +39,16 @@ range_has a b e h = go (leb a b) refl h
 -- a rule for digits in a base, and its bytes
 pub record Rule (digit : ℕ → Option ℕ) (base : ℕ) : Type 0 where
   pub pos : 0 < base
-  pub back : (b d : ℕ) → digit b ≡ some d → (d < base) × (digit_byte d ≡ b)
-  pub forth : (d : ℕ) → d < base → digit (digit_byte d) ≡ some d
+  pub back : (b d : ℕ) → digit b ≡ Some d → (d < base) × (digit_byte d ≡ b)
+  pub forth : (d : ℕ) → d < base → digit (digit_byte d) ≡ Some d
 
 pub hex_rule : Rule hex_digit 16
 hex_rule = record { pos = omega arith; back = back; forth = forth }
   where
-    back : (b d : ℕ) → hex_digit b ≡ some d → (d < 16) × (digit_byte d ≡ b)
+    back : (b d : ℕ) → hex_digit b ≡ Some d → (d < 16) × (digit_byte d ≡ b)
     back b d h = go (between 48 b 57) (between 65 b 70) refl refl h
       where
-        go : (p q : Bool) → between 48 b 57 ≡ p → between 65 b 70 ≡ q → cond p (some (b - 48)) (cond q (some (b - 55)) none) ≡ some d → (d < 16) × (digit_byte d ≡ b)
+        go : (p q : Bool) → between 48 b 57 ≡ p → between 65 b 70 ≡ q → cond p (Some (b - 48)) (cond q (Some (b - 55)) None) ≡ Some d → (d < 16) × (digit_byte d ≡ b)
         go true q x y e =
             let r : (48 ≤ b) × (b ≤ 57) = range_has 48 b 57 x in
             let z : b - 48 ≡ d = cc in
@@ -59,10 +59,10 @@ hex_rule = record { pos = omega arith; back = back; forth = forth }
             (omega arith, simp (le-ltb d 10 (omega arith)) (omega arith))
         go false false x y e = nothing_is e
 
-    forth : (d : ℕ) → d < 16 → hex_digit (digit_byte d) ≡ some d
+    forth : (d : ℕ) → d < 16 → hex_digit (digit_byte d) ≡ Some d
     forth d h = go (ltb d 10) refl
       where
-        go : (t : Bool) → ltb d 10 ≡ t → hex_digit (cond t (48 + d) (55 + d)) ≡ some d
+        go : (t : Bool) → ltb d 10 ≡ t → hex_digit (cond t (48 + d) (55 + d)) ≡ Some d
         go true e =
             let r : d < 10 = ltb-true d 10 e in
             let z : 48 + d - 48 ≡ d = omega arith in
@@ -75,17 +75,17 @@ hex_rule = record { pos = omega arith; back = back; forth = forth }
 pub dec_rule : Rule dec_digit 10
 dec_rule = record { pos = omega arith; back = back; forth = forth }
   where
-    back : (b d : ℕ) → dec_digit b ≡ some d → (d < 10) × (digit_byte d ≡ b)
+    back : (b d : ℕ) → dec_digit b ≡ Some d → (d < 10) × (digit_byte d ≡ b)
     back b d h = go (between 48 b 57) refl h
       where
-        go : (p : Bool) → between 48 b 57 ≡ p → cond p (some (b - 48)) none ≡ some d → (d < 10) × (digit_byte d ≡ b)
+        go : (p : Bool) → between 48 b 57 ≡ p → cond p (Some (b - 48)) None ≡ Some d → (d < 10) × (digit_byte d ≡ b)
         go true x e =
             let r : (48 ≤ b) × (b ≤ 57) = range_has 48 b 57 x in
             let z : b - 48 ≡ d = cc in
             (omega arith, simp (lt-ltb d 10 (omega arith)) (omega arith))
         go false x e = nothing_is e
 
-    forth : (d : ℕ) → d < 10 → dec_digit (digit_byte d) ≡ some d
+    forth : (d : ℕ) → d < 10 → dec_digit (digit_byte d) ≡ Some d
     forth d h =
         let z : 48 + d - 48 ≡ d = omega arith in
         simp (lt-ltb d 10 h, in_range 48 (48 + d) 57 (omega arith) (omega arith), z)
@@ -101,30 +101,30 @@ pow_pos base zero h = rw (pow-zero base) (omega arith)
 pow_pos base (suc k) h = rw (pow-suc base k) (mul-pos (pow_pos base k h) h)
 
 module _ {digit : ℕ → Option ℕ} {base : ℕ} (R : Rule digit base) where
-  pub read-digits : (k acc v : ℕ) → num_from digit base acc (digits base k v) ≡ some (acc * base ^ k + v % base ^ k)
+  pub read-digits : (k acc v : ℕ) → num_from digit base acc (digits base k v) ≡ Some (acc * base ^ k + v % base ^ k)
   unfolding num_from digits
-  read-digits zero acc v = ap some (sym (rw (pow-zero base, mod-one v, mul-one acc, add-zero acc)))
+  read-digits zero acc v = ap Some (sym (rw (pow-zero base, mod-one v, mul-one acc, add-zero acc)))
   read-digits (suc k) acc v =
       let q : ℕ = v / base ^ k % base in
       rw (R.forth q (mod-lt (v / base ^ k) R.pos)) (
       read-digits k (acc * base + q) v
-      ∙ ap some (rw (pow-suc base k, mul_comm (base ^ k) base, mod-mul v R.pos (pow_pos base k R.pos), add-mul, mul_assoc, add_assoc)))
+      ∙ ap Some (rw (pow-suc base k, mul_comm (base ^ k) base, mod-mul v R.pos (pow_pos base k R.pos), add-mul, mul_assoc, add_assoc)))
 
-  pub digits-read : (s : List ℕ) (acc v : ℕ) → num_from digit base acc s ≡ some v → (v / base ^ length s ≡ acc) × (digits base (length s) v ≡ s)
+  pub digits-read : (s : List ℕ) (acc v : ℕ) → num_from digit base acc s ≡ Some v → (v / base ^ length s ≡ acc) × (digits base (length s) v ≡ s)
   unfolding num_from digits
   digits-read [] acc v h = let z : acc ≡ v = cc in (rw (pow-zero base, div-one v) (sym z), refl)
   digits-read (b ∷ bs) acc v h = go (digit b) refl (λ d. digits-read bs (acc * base + d) v)
     where
       go : (o : Option ℕ) → digit b ≡ o
-          → ((d : ℕ) → num_from digit base (acc * base + d) bs ≡ some v → (v / base ^ length bs ≡ acc * base + d) × (digits base (length bs) v ≡ bs))
+          → ((d : ℕ) → num_from digit base (acc * base + d) bs ≡ Some v → (v / base ^ length bs ≡ acc * base + d) × (digits base (length bs) v ≡ bs))
           → (v / base ^ suc (length bs) ≡ acc) × (digit_byte (v / base ^ length bs % base) ∷ digits base (length bs) v ≡ b ∷ bs)
-      go (some d) e ih =
+      go (Some d) e ih =
           let r = ih d (rw e at h) in
           let k = R.back b d e in (
             rw (pow-suc base (length bs), ← div-div-eq-div-mul v (base ^ length bs) base, r.0) (digits_div acc k.0),
             rw (r.0, digits_mod acc k.0, k.1, r.1),
           )
-      go none e ih = nothing_is (rw e at h)
+      go None e ih = nothing_is (rw e at h)
 
 -- a number below ten has one digit
 pub places_small : (v : ℕ) → v < 10 → places v v ≡ 1
@@ -133,12 +133,12 @@ places_small zero h = refl
 places_small (suc v) h = rw (lt-ltb (suc v) 10 h)
 
 -- ---- exactly n hex digits
-pub hex_read : (n v : ℕ) → v < 16 ^ n → read_hex n (digits 16 n v) ≡ some v
+pub hex_read : (n v : ℕ) → v < 16 ^ n → read_hex n (digits 16 n v) ≡ Some v
 unfolding read_hex
 hex_read n v h = rw (eq-eqb (length (digits 16 n v)) n (length_digits 16 n v), read-digits hex_rule n 0 v, mod-eq_of_lt h, zero-mul, zero-add)
 
 -- what was read is below 16 ^ n, and is written as it stood
-pub hex_text : (n v : ℕ) (s : Bytes) → read_hex n s ≡ some v → (v < 16 ^ n) × (digits 16 n v ≡ s)
+pub hex_text : (n v : ℕ) (s : Bytes) → read_hex n s ≡ Some v → (v < 16 ^ n) × (digits 16 n v ≡ s)
 unfolding read_hex
 hex_text n v s h =
     let (e, k) = cond-some (eqb (length s) n) (num_from hex_digit 16 0 s) v h in

@@ -3,7 +3,7 @@
 use mathlib.Core.Path.{◌∙◌, ◌≡◌, ap, refl, sym}
 use mathlib.Core.Bool.{◌&&◌, false≢true, true}
 use mathlib.Core.List.{List, [], ◌++◌, ◌∷◌, append_assoc, append-nil, map}
-use mathlib.Core.Option.{Option, none, some}
+use Rattle.std.specs.Prelude.{Option, None, Some}
 use Prim.Native.Nat.{suc, zero, ℕ}
 use lib.ListN.{length}
 use Rattle.model.specs.declared.Class.{Class}
@@ -19,7 +19,7 @@ use Rattle.model.proofs.OptionLaws.{map-some, map-twice, nothing_is, provided-so
 -- ---- steps, one after another
 module _ {R A : Type 0} where
   abbrev pub run : (R → A → Option A) → List R → A → Option A
-  run f [] a = some a
+  run f [] a = Some a
   run f (r ∷ rs) a = and_then (f r a) (run f rs)
 
   pub run-append : (f : R → A → Option A) (rs ss : List R) (a : A) → run f (rs ++ ss) a ≡ and_then (run f rs a) (run f ss)
@@ -27,12 +27,12 @@ module _ {R A : Type 0} where
   run-append f (r ∷ rs) ss a = go (f r a) (run-append f rs ss)
     where
       go : (o : Option A) → ((b : A) → run f (rs ++ ss) b ≡ and_then (run f rs b) (run f ss)) → and_then o (run f (rs ++ ss)) ≡ and_then (and_then o (run f rs)) (run f ss)
-      go none ih = refl
-      go (some b) ih = ih b
+      go None ih = refl
+      go (Some b) ih = ih b
 
   -- a step adds its record behind those that stand
   abbrev pub Adds : (R → A → Option A) → (A → List R) → Type 0
-  Adds f recs = (r : R) (a b : A) → f r a ≡ some b → recs b ≡ recs a ++ (r ∷ [])
+  Adds f recs = (r : R) (a b : A) → f r a ≡ Some b → recs b ≡ recs a ++ (r ∷ [])
 
 -- steps inside a larger thing are steps of that thing
 module _ {R R' A A' : Type 0} (f : R → A → Option A) (f' : R' → A' → Option A') (c : R → R') (e : A → A') where
@@ -41,8 +41,8 @@ module _ {R R' A A' : Type 0} (f : R → A → Option A) (f' : R' → A' → Opt
   run_inside h (r ∷ rs) a = rw (h r a) (go (f r a) (run_inside h rs))
     where
       go : (o : Option A) → ((b : A) → run f' (map c rs) (e b) ≡ map_o e (run f rs b)) → and_then (map_o e o) (run f' (map c rs)) ≡ map_o e (and_then o (run f rs))
-      go none ih = refl
-      go (some b) ih = ih b
+      go None ih = refl
+      go (Some b) ih = ih b
 
 -- ---- numbered places
 module _ {A : Type 0} where
@@ -57,12 +57,12 @@ emptied-nones n (o ∷ l) e = rw (← e, emptied-nones (length l) l refl)
 module _ {A R : Type 0} (recs : A → List R) where
   pub vacant-numbered : (l : Places A) → vacant l ≡ true → numbered recs l ≡ []
   vacant-numbered [] v = refl
-  vacant-numbered (none ∷ l) v = ap (map later) (vacant-numbered l v)
-  vacant-numbered (some a ∷ l) v = absurd (false≢true v)
+  vacant-numbered (None ∷ l) v = ap (map later) (vacant-numbered l v)
+  vacant-numbered (Some a ∷ l) v = absurd (false≢true v)
 
   module _ (f : R → Option A → Option (Option A)) where
     -- read, then written
-    place_at_adds : Adds f (of_option recs) → (n : ℕ) (r : R) (l m : Places A) → place_at f n r l ≡ some m → numbered recs m ≡ numbered recs l ++ ((n, r) ∷ [])
+    place_at_adds : Adds f (of_option recs) → (n : ℕ) (r : R) (l m : Places A) → place_at f n r l ≡ Some m → numbered recs m ≡ numbered recs l ++ ((n, r) ∷ [])
     place_at_adds h n r [] m e = nothing_is e
     place_at_adds h zero r (o ∷ l) m e =
         let (v, x) = provided-some (vacant l) (map_o (λ (y : Option A). y ∷ l) (f r o)) m e in
@@ -76,36 +76,36 @@ module _ {A R : Type 0} (recs : A → List R) where
     place_in_adds h x l m e = place_at_adds h x.0 x.1 l m e
 
     -- written, then read
-    pub place_in_run : (P : A → Type 0) → ((a : A) → P a → run f (recs a) none ≡ some (some a)) → (l : Places A) → EveryIn P l → run (place_in f) (numbered recs l) (emptied l) ≡ some l
+    pub place_in_run : (P : A → Type 0) → ((a : A) → P a → run f (recs a) None ≡ Some (Some a)) → (l : Places A) → EveryIn P l → run (place_in f) (numbered recs l) (emptied l) ≡ Some l
     place_in_run P h [] k = refl
     place_in_run P h (o ∷ l) k =
-        run-append (place_in f) (map first (of_option recs o)) (map later (numbered recs l)) (none ∷ emptied l)
-        ∙ rw (run_inside f (place_in f) first (λ (x : Option A). x ∷ emptied l) (λ r x. rw (vacant-emptied l)) (of_option recs o) none, go o k)
+        run-append (place_in f) (map first (of_option recs o)) (map later (numbered recs l)) (None ∷ emptied l)
+        ∙ rw (run_inside f (place_in f) first (λ (x : Option A). x ∷ emptied l) (λ r x. rw (vacant-emptied l)) (of_option recs o) None, go o k)
         (run_inside (place_in f) (place_in f) later (λ (x : Places A). o ∷ x) (λ r x. refl) (numbered recs l) (emptied l) ∙ rw (place_in_run P h l (rest o k)))
       where
-        go : (o : Option A) → EveryIn P (o ∷ l) → run f (of_option recs o) none ≡ some o
-        go none k = refl
-        go (some a) k = h a k.0
+        go : (o : Option A) → EveryIn P (o ∷ l) → run f (of_option recs o) None ≡ Some o
+        go None k = refl
+        go (Some a) k = h a k.0
 
         rest : (o : Option A) → EveryIn P (o ∷ l) → EveryIn P l
-        rest none k = k
-        rest (some a) k = k.1
+        rest None k = k
+        rest (Some a) k = k.1
 
 -- ---- tables
 fresh_adds : {A : Type 0} → Adds (fresh {A = A}) (of_option single)
-fresh_adds a none o e = let q : some a ≡ o = cc in rw (← q)
-fresh_adds a (some b) o e = nothing_is e
+fresh_adds a None o e = let q : Some a ≡ o = cc in rw (← q)
+fresh_adds a (Some b) o e = nothing_is e
 
-pub spread-filled : (ks : Places Column) (fs : List Field) (l : Places Field) → spread ks fs ≡ some l → filled l ≡ fs
+pub spread-filled : (ks : Places Column) (fs : List Field) (l : Places Field) → spread ks fs ≡ Some l → filled l ≡ fs
 unfolding spread
 spread-filled [] [] l e = let q : [] ≡ l = cc in rw (← q)
 spread-filled [] (f ∷ fs) l e = nothing_is e
-spread-filled (none ∷ ks) fs l e =
-    let (m, p, q) = map-some (λ (l : Places Field). none ∷ l) (spread ks fs) l e in
+spread-filled (None ∷ ks) fs l e =
+    let (m, p, q) = map-some (λ (l : Places Field). None ∷ l) (spread ks fs) l e in
     rw (← q) (spread-filled ks fs m p)
-spread-filled (some k ∷ ks) [] l e = nothing_is e
-spread-filled (some k ∷ ks) (f ∷ fs) l e =
-    let (m, p, q) = map-some (λ (l : Places Field). some f ∷ l) (spread ks fs) l e in
+spread-filled (Some k ∷ ks) [] l e = nothing_is e
+spread-filled (Some k ∷ ks) (f ∷ fs) l e =
+    let (m, p, q) = map-some (λ (l : Places Field). Some f ∷ l) (spread ks fs) l e in
     rw (← q) (ap (λ (x : List Field). f ∷ x) (spread-filled ks fs m p))
 
 no_rows_lem : (rs : List Row) → no_rows rs ≡ true → rs ≡ []
@@ -125,13 +125,13 @@ module _ {A R : Type 0} (name : ℕ × A → R) where
   abbrev named : Places A → List R
   named l = map name (numbered single l)
 
-  named_more : (x : ℕ × A) (l m : Places A) → place_in fresh x l ≡ some m → named m ≡ named l ++ (name x ∷ [])
+  named_more : (x : ℕ × A) (l m : Places A) → place_in fresh x l ≡ Some m → named m ≡ named l ++ (name x ∷ [])
   named_more x l m e = rw (place_in_adds single fresh fresh_adds x l m e) (map-append name (numbered single l) (x ∷ []))
 
   named_none : (l : Places A) (b : List R) → vacant l ≡ true → b ≡ [] → named l ++ b ≡ []
   named_none l b v e = rw (vacant-numbered single l v, e)
 
-place_inside_adds : (p : TablePart) (t u : Table) → place_inside p t ≡ some u → table_records u ≡ table_records t ++ (p ∷ [])
+place_inside_adds : (p : TablePart) (t u : Table) → place_inside p t ≡ Some u → table_records u ≡ table_records t ++ (p ∷ [])
 unfolding place_inside table_records row_record
 place_inside_adds (table k m) t u e = nothing_is e
 place_inside_adds (berth x) t u e =
@@ -169,23 +169,23 @@ place_inside_adds (row k fs) t u e =
 
 place_table_adds : Adds place_table (of_option table_records)
 unfolding place_table table_records
-place_table_adds (table k m) none u e = let q : some (table_of k m (nones 4) (nones 4) (nones 8) []) ≡ u = cc in rw (← q)
-place_table_adds (berth x) none u e = nothing_is e
-place_table_adds (group x) none u e = nothing_is e
-place_table_adds (column x) none u e = nothing_is e
-place_table_adds (row k fs) none u e = nothing_is e
-place_table_adds p (some t) u e =
-    let (x, y, q) = map-some some (place_inside p t) u e in
+place_table_adds (table k m) None u e = let q : Some (table_of k m (nones 4) (nones 4) (nones 8) []) ≡ u = cc in rw (← q)
+place_table_adds (berth x) None u e = nothing_is e
+place_table_adds (group x) None u e = nothing_is e
+place_table_adds (column x) None u e = nothing_is e
+place_table_adds (row k fs) None u e = nothing_is e
+place_table_adds p (Some t) u e =
+    let (x, y, q) = map-some Some (place_inside p t) u e in
     ap (of_option table_records) (sym q) ∙ place_inside_adds p t x y
 
 -- ---- directories and stores
 place_part_adds : Adds place_part (of_option directory_records)
 unfolding place_part directory_records
-place_part_adds (directory x k) none u e = let q : some (record { exist = x; class = k; tables = nones 2 }) ≡ u = cc in rw (← q)
-place_part_adds (directory x k) (some d) u e = nothing_is e
-place_part_adds (inside p) none u e = nothing_is e
-place_part_adds (inside p) (some d) u e =
-    let (l, y, q) = map-some (λ (l : Places Table). some (record { exist = d.exist; class = d.class; tables = l })) (place_in place_table p d.tables) u e in
+place_part_adds (directory x k) None u e = let q : Some (record { exist = x; class = k; tables = nones 2 }) ≡ u = cc in rw (← q)
+place_part_adds (directory x k) (Some d) u e = nothing_is e
+place_part_adds (inside p) None u e = nothing_is e
+place_part_adds (inside p) (Some d) u e =
+    let (l, y, q) = map-some (λ (l : Places Table). Some (record { exist = d.exist; class = d.class; tables = l })) (place_in place_table p d.tables) u e in
     ap (of_option directory_records) (sym q)
     ∙ ap (λ (x : List Part). directory d.exist d.class ∷ x) (rw (place_in_adds table_records place_table place_table_adds p d.tables l y) (map-append inside (numbered table_records d.tables) (p ∷ [])))
 
@@ -200,7 +200,7 @@ pub record TableShape (t : Table) : Type 0 where
   pub berths4 : length t.berths ≡ 4
   pub groups4 : length t.groups ≡ 4
   pub columns8 : length t.columns ≡ 8
-  pub rows_fit : Every (λ (r : Row). spread t.columns (filled r.fields) ≡ some r.fields) t.rows
+  pub rows_fit : Every (λ (r : Row). spread t.columns (filled r.fields) ≡ Some r.fields) t.rows
 
 pub record DirectoryShape (d : Directory) : Type 0 where
   pub tables2 : length d.tables ≡ 2
@@ -213,29 +213,29 @@ pub record Shape (s : Store) : Type 0 where
 module _ {A : Type 0} where
   anything : (l : Places A) → EveryIn (λ a. Unit {0}) l
   anything [] = tt
-  anything (none ∷ l) = anything l
-  anything (some a ∷ l) = (tt, anything l)
+  anything (None ∷ l) = anything l
+  anything (Some a ∷ l) = (tt, anything l)
 
-  single-run : (n : ℕ) (l : Places A) → length l ≡ n → run (place_in fresh) (numbered single l) (nones n) ≡ some l
+  single-run : (n : ℕ) (l : Places A) → length l ≡ n → run (place_in fresh) (numbered single l) (nones n) ≡ Some l
   single-run n l e = rw (← emptied-nones n l e) (place_in_run single fresh (λ a. Unit {0}) (λ a u. refl) l (anything l))
 
 -- the parts of one kind of a table, which is e of their places
 part-run : {A : Type 0} (name : ℕ × A → TablePart) (e : Places A → Table) (n : ℕ) (l : Places A) → length l ≡ n
     → ((x : ℕ × A) (m : Places A) → place_inside (name x) (e m) ≡ map_o e (place_in fresh x m))
-    → run place_table (map name (numbered single l)) (some (e (nones n))) ≡ some (some (e l))
+    → run place_table (map name (numbered single l)) (Some (e (nones n))) ≡ Some (Some (e l))
 unfolding place_table
 part-run name e n l h step =
-    run_inside (place_in fresh) place_table name (λ (m : Places _). some (e m)) (λ x m. rw (step x m) (map-twice some e (place_in fresh x m))) (numbered single l) (nones n)
+    run_inside (place_in fresh) place_table name (λ (m : Places _). Some (e m)) (λ x m. rw (step x m) (map-twice Some e (place_in fresh x m))) (numbered single l) (nones n)
     ∙ rw (single-run n l h)
 
 rows_run : (k m : Class) (bs gs : Places Class) (cs : Places Column) (rs done : List Row)
-    → Every (λ (r : Row). spread cs (filled r.fields) ≡ some r.fields) rs
-    → run place_table (map row_record rs) (some (table_of k m bs gs cs done)) ≡ some (some (table_of k m bs gs cs (done ++ rs)))
+    → Every (λ (r : Row). spread cs (filled r.fields) ≡ Some r.fields) rs
+    → run place_table (map row_record rs) (Some (table_of k m bs gs cs done)) ≡ Some (Some (table_of k m bs gs cs (done ++ rs)))
 unfolding place_table place_inside row_record
 rows_run k m bs gs cs [] done h = rw (append-nil done)
 rows_run k m bs gs cs (r ∷ rs) done h = rw h.0 (rows_run k m bs gs cs rs (done ++ (r ∷ [])) h.1 ∙ rw (append_assoc done (r ∷ []) rs))
 
-table-run : (t : Table) → TableShape t → run place_table (table_records t) none ≡ some (some t)
+table-run : (t : Table) → TableShape t → run place_table (table_records t) None ≡ Some (Some t)
 unfolding place_table place_inside table_records
 table-run t h =
     run-append place_table (map berth (numbered single t.berths)) _ _
@@ -246,13 +246,13 @@ table-run t h =
     ∙ rw (part-run column (λ (l : Places Column). table_of t.class t.max t.berths t.groups l []) 8 t.columns h.columns8 (λ x l. refl))
     (rows_run t.class t.max t.berths t.groups t.columns t.rows [] h.rows_fit)))
 
-directory-run : (d : Directory) → DirectoryShape d → run place_part (directory_records d) none ≡ some (some d)
+directory-run : (d : Directory) → DirectoryShape d → run place_part (directory_records d) None ≡ Some (Some d)
 unfolding place_part directory_records
 directory-run d h =
-    run_inside (place_in place_table) place_part inside (λ (l : Places Table). some (record { exist = d.exist; class = d.class; tables = l })) (λ p l. refl) (numbered table_records d.tables) (nones 2)
+    run_inside (place_in place_table) place_part inside (λ (l : Places Table). Some (record { exist = d.exist; class = d.class; tables = l })) (λ p l. refl) (numbered table_records d.tables) (nones 2)
     ∙ rw (← emptied-nones 2 d.tables h.tables2, place_in_run table_records place_table TableShape table-run d.tables h.tables-fit)
 
 -- the records of a store, placed one after another, make that store
-pub place-run : (s : Store) → Shape s → run place (records s) (nones 4) ≡ some s
+pub place-run : (s : Store) → Shape s → run place (records s) (nones 4) ≡ Some s
 unfolding place records
 place-run s h = rw (← emptied-nones 4 s h.directories4) (place_in_run directory_records place_part DirectoryShape directory-run s h.directories_fit)

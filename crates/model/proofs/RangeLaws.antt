@@ -3,7 +3,7 @@
 use mathlib.Core.Path.{◌≡◌, refl}
 use mathlib.Core.Bool.{Bool, false≢true, true}
 use mathlib.Core.List.{List, [], ◌∷◌, map}
-use mathlib.Core.Option.{none, some}
+use Rattle.std.specs.Prelude.{None, Some}
 use Prim.Native.Nat.{◌<◌, ◌≤◌, suc, suc-le-suc, zero, ℕ}
 use native.Mathlib.Omega.{arith}
 use lib.Dec.{eqb}
@@ -67,8 +67,8 @@ module _ {A R : Type 0} (recs : A → List R) (In : A → Type 0) (P : R → Typ
 
   numbered_below : (l : Places A) → EveryIn In l → Every (Below (length l)) (numbered recs l)
   numbered_below [] h = tt
-  numbered_below (none ∷ l) h = every_map (Below (length l)) (Below (suc (length l))) later (λ x k. (suc-le-suc k.0, k.1)) (numbered recs l) (numbered_below l h)
-  numbered_below (some a ∷ l) h =
+  numbered_below (None ∷ l) h = every_map (Below (length l)) (Below (suc (length l))) later (λ x k. (suc-le-suc k.0, k.1)) (numbered recs l) (numbered_below l h)
+  numbered_below (Some a ∷ l) h =
       every_append (Below (suc (length l))) (map first (recs a)) (map later (numbered recs l))
       (every_map P (Below (suc (length l))) first (λ r k. (omega arith, k)) (recs a) (each a h.0))
       (every_map (Below (length l)) (Below (suc (length l))) later (λ x k. (suc-le-suc k.0, k.1)) (numbered recs l) (numbered_below l h.1))
@@ -81,8 +81,8 @@ module _ {A R : Type 0} (recs : A → List R) (In : A → Type 0) (P : R → Typ
 module _ {A R : Type 0} (recs : A → List R) (p : A → Bool) (P : R → Type 0) (each : (a : A) → Every P (recs a) → p a ≡ true) where
   in_numbered : (l : Places A) → Every (λ (x : ℕ × R). P x.1) (numbered recs l) → all_in p l ≡ true
   in_numbered [] h = refl
-  in_numbered (none ∷ l) h = in_numbered l (every_unmap _ (λ (x : ℕ × R). P x.1) later (λ x k. k) (numbered recs l) h)
-  in_numbered (some a ∷ l) h =
+  in_numbered (None ∷ l) h = in_numbered l (every_unmap _ (λ (x : ℕ × R). P x.1) later (λ x k. k) (numbered recs l) h)
+  in_numbered (Some a ∷ l) h =
       let (x, y) = every_split (λ (x : ℕ × R). P x.1) (map first (recs a)) (map later (numbered recs l)) h in
       both (p a) (all_in p l) (each a (every_unmap P _ first (λ r k. k) (recs a) x)) (in_numbered l (every_unmap _ _ later (λ x k. k) (numbered recs l) y))
 

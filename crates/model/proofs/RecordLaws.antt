@@ -3,7 +3,7 @@
 use mathlib.Core.Path.{◌∙◌, ◌≡◌, ap, refl, sym}
 use mathlib.Core.Bool.{true}
 use mathlib.Core.List.{List, [], ◌∷◌}
-use mathlib.Core.Option.{some}
+use Rattle.std.specs.Prelude.{Some}
 use Prim.Native.Nat.{◌≤◌, ℕ}
 use native.Mathlib.Omega.{arith}
 use Rattle.model.specs.Values.{value_sound}
@@ -22,7 +22,7 @@ agree : Agree letter_byte letters
 unfolding letter_byte
 agree = (refl, (refl, (refl, (refl, (refl, (refl, tt))))))
 
-letter_there : (x : Letter) → read_letter letters (letter_byte x ∷ []) ≡ some x
+letter_there : (x : Letter) → read_letter letters (letter_byte x ∷ []) ≡ Some x
 unfolding read_letter letter_byte
 letter_there D = refl
 letter_there T = refl
@@ -73,7 +73,7 @@ module _ (w : ℕ) where
   sure_r = number-sure 3 also number-sure 1 also class-sure w also fields-sure w
 
   -- ---- written, then read
-  table-there : (d t : ℕ) (p : TablePart) → d ≤ 3 → t ≤ 1 → TablePartIn p → read_record w (table_fields w d t p) ≡ some (d, inside (t, p))
+  table-there : (d t : ℕ) (p : TablePart) → d ≤ 3 → t ≤ 1 → TablePartIn p → read_record w (table_fields w d t p) ≡ Some (d, inside (t, p))
   unfolding read_record read_by table_fields
   table-there d t (table k m) i j h = rw (letter_there T, sure_t.there (d, (t, (k, m))) (i, (j, h)))
   table-there d t (berth x) i j h = rw (letter_there B, sure_b.there (d, (t, x)) (i, (j, h)))
@@ -81,16 +81,16 @@ module _ (w : ℕ) where
   table-there d t (column x) i j h = rw (letter_there C, sure_c.there (d, (t, (x.0, of_column x.1))) (i, (j, (h.0, (h.1.0, (tt, field-parts w x.1.default h.1.1))))))
   table-there d t (row k fs) i j h = rw (letter_there R, sure_r.there (d, (t, (k, fs))) (i, (j, h)))
 
-  record-there : (r : Record) → RecordIn r → read_record w (record_fields w r) ≡ some r
+  record-there : (r : Record) → RecordIn r → read_record w (record_fields w r) ≡ Some r
   unfolding record_fields
   record-there r h = go r.0 r.1 h.0 h.1
     where
-      go : (d : ℕ) (p : Part) → d ≤ 3 → PartIn p → read_record w (part_fields w d p) ≡ some (d, p)
+      go : (d : ℕ) (p : Part) → d ≤ 3 → PartIn p → read_record w (part_fields w d p) ≡ Some (d, p)
       go d (directory x k) i h = unfold read_record read_by part_fields in rw (letter_there D, sure_d.there (d, (x, k)) (i, h))
       go d (inside p) i h = unfold part_fields in table-there d p.0 p.1 i h.0 h.1
 
   -- ---- read, then written
-  by_back : (x : Letter) (l : List Bytes) (r : Record) → read_by w x l ≡ some r → record_fields w r ≡ led x l
+  by_back : (x : Letter) (l : List Bytes) (r : Record) → read_by w x l ≡ Some r → record_fields w r ≡ led x l
   unfolding read_by record_fields part_fields table_fields
   by_back D l r e = let (x, p, q) = map-some _ ((line_d w).parse l) r e in ap (record_fields w) (sym q) ∙ ap (led D) (sure_d.back l x p)
   by_back T l r e = let (x, p, q) = map-some _ ((line_t w).parse l) r e in ap (record_fields w) (sym q) ∙ ap (led T) (sure_t.back l x p)
@@ -99,7 +99,7 @@ module _ (w : ℕ) where
   by_back C l r e = let (x, p, q) = map-some _ ((line_c w).parse l) r e in ap (record_fields w) (sym q) ∙ ap (led C) (sure_c.back l x p)
   by_back R l r e = let (x, p, q) = map-some _ ((line_r w).parse l) r e in ap (record_fields w) (sym q) ∙ ap (led R) (sure_r.back l x p)
 
-  pub record-back : (l : List Bytes) (r : Record) → read_record w l ≡ some r → record_fields w r ≡ l
+  pub record-back : (l : List Bytes) (r : Record) → read_record w l ≡ Some r → record_fields w r ≡ l
   unfolding read_record
   record-back [] r e = nothing_is e
   record-back (a ∷ l) r e =
@@ -107,7 +107,7 @@ module _ (w : ℕ) where
       by_back x l r q ∙ ap (λ (y : Bytes). y ∷ l) (letter_back letter_byte letters agree a x p)
 
   -- ---- what is read is in range
-  by_sound : (x : Letter) (l : List Bytes) (r : Record) → read_by w x l ≡ some r → RecordIn r
+  by_sound : (x : Letter) (l : List Bytes) (r : Record) → read_by w x l ≡ Some r → RecordIn r
   unfolding read_by
   by_sound D l r e = let (x, p, q) = map-some _ ((line_d w).parse l) r e in rw (← q) (sure_d.sound l x p)
   by_sound T l r e = let (x, p, q) = map-some _ ((line_t w).parse l) r e in rw (← q) (sure_t.sound l x p)
@@ -116,7 +116,7 @@ module _ (w : ℕ) where
   by_sound C l r e = let (x, p, q) = map-some _ ((line_c w).parse l) r e in let h = sure_c.sound l x p in let f = h.1.1.1.1.1 in rw (← q) (h.0, (h.1.0, (h.1.1.0, (h.1.1.1.0, of_parts w _ _ f.0 f.1))))
   by_sound R l r e = let (x, p, q) = map-some _ ((line_r w).parse l) r e in rw (← q) (sure_r.sound l x p)
 
-  pub record-sound : (l : List Bytes) (r : Record) → read_record w l ≡ some r → RecordIn r
+  pub record-sound : (l : List Bytes) (r : Record) → read_record w l ≡ Some r → RecordIn r
   unfolding read_record
   record-sound [] r e = nothing_is e
   record-sound (a ∷ l) r e = let (x, p, q) = then_some (read_letter letters a) (λ (x : Letter). read_by w x l) r e in by_sound x l r q
@@ -142,10 +142,10 @@ module _ (w : ℕ) where
   record-free r = line-free (record_fields w r) (record-clean r)
 
   -- the line of a record in range is read as that record
-  pub line-there : (r : Record) → RecordIn r → read_record w (fields_of (record_line w r)) ≡ some r
+  pub line-there : (r : Record) → RecordIn r → read_record w (fields_of (record_line w r)) ≡ Some r
   unfolding record_line
   line-there r h = rw (apart (record_fields w r) (record-there r h) (record-clean r)) (record-there r h)
     where
-      apart : (l : List Bytes) → read_record w l ≡ some r → Every Clean l → fields_of (line_of l) ≡ l
+      apart : (l : List Bytes) → read_record w l ≡ Some r → Every Clean l → fields_of (line_of l) ≡ l
       apart [] e c = unfold read_record in nothing_is e
       apart (x ∷ xs) e c = fields-line x xs c.0 c.1

@@ -4,7 +4,7 @@ use mathlib.Core.Path.{◌≡◌, ap, refl, subst}
 use mathlib.Core.Logic.{◌↔◌, ◌⊎◌, inl, inr, ⊎_elim}
 use mathlib.Core.Bool.{Bool, ◌&&◌, ◌||◌, false, false≢true, not, true}
 use mathlib.Core.List.{List, [], ◌∷◌}
-use mathlib.Core.Option.{Option, none, some}
+use Rattle.std.specs.Prelude.{Option, None, Some}
 use Prim.Native.Nat.{◌<◌, ◌≤◌, ℕ}
 use native.Mathlib.Omega.{arith}
 use lib.Dec.{eqb, leb, ltb}
@@ -12,7 +12,7 @@ use borrow.Author.Tests.{eq-eqb, eqb-true, le-leb, leb-true, lt-ltb, ltb-true}
 use Rattle.model.specs.declared.Class.{Class}
 use Rattle.model.specs.Places.{any, present, sure, twice}
 use Rattle.model.specs.Classes.{same}
-use Rattle.model.specs.Conditions.{Some, There, Twice}
+use Rattle.model.specs.Conditions.{SomeOf, There, Twice}
 use Rattle.model.proofs.Tests.{and-fst, and-snd, both, not-both, not-true, or_left, or_right}
 use Rattle.model.proofs.OrderLaws.{same_eq, same_refl}
 use Rattle.model.proofs.OptionLaws.{nothing_is}
@@ -73,13 +73,13 @@ module _ {P : Type 0} where
 
 -- ---- lists, and what may be absent
 module _ {A : Type 0} {p : A → Bool} {P : A → Type 0} (r : (a : A) → Reflects (p a) (P a)) where
-  pub any_reflects : (l : List A) → Reflects (any p l) (Some P l)
+  pub any_reflects : (l : List A) → Reflects (any p l) (SomeOf P l)
   any_reflects [] = never (λ h. h)
   any_reflects (a ∷ l) = or_reflects (r a) (any_reflects l)
 
   pub sure_reflects : (o : Option A) → Reflects (sure p o) (There P o)
-  sure_reflects none = never (λ h. nothing_is h.1)
-  sure_reflects (some a) = reworded (r a) (λ h. (a, refl, h)) (λ h. let q : h.0 ≡ a = cc h.1 in subst P q h.2)
+  sure_reflects None = never (λ h. nothing_is h.1)
+  sure_reflects (Some a) = reworded (r a) (λ h. (a, refl, h)) (λ h. let q : h.0 ≡ a = cc h.1 in subst P q h.2)
 
 pub twice_reflects : {A : Type 0} {p : A → A → Bool} {R : A → A → Type 0} → ((a b : A) → Reflects (p a b) (R a b))
     → (l : List A) → Reflects (twice p l) (Twice R l)
@@ -87,8 +87,8 @@ twice_reflects r [] = never (λ h. h)
 twice_reflects r (a ∷ l) = or_reflects (any_reflects (r a) l) (twice_reflects r l)
 
 pub present_reflects : {A : Type 0} (o : Option A) → Reflects (present o) (There (λ (a : A). Unit {0}) o)
-present_reflects none = never (λ h. nothing_is h.1)
-present_reflects (some a) = always (a, refl, tt)
+present_reflects None = never (λ h. nothing_is h.1)
+present_reflects (Some a) = always (a, refl, tt)
 
 -- ---- numbers and classes
 pub eqb_reflects : (m n : ℕ) → Reflects (eqb m n) (m ≡ n)

@@ -4,7 +4,7 @@ use mathlib.Core.Path.{◌≡◌, ap, refl, sym}
 use mathlib.Core.Logic.{◌↔◌, inl, inr, ⊎_elim}
 use mathlib.Core.Bool.{Bool, cond, false, not, true}
 use mathlib.Core.List.{List, [], ◌∷◌}
-use mathlib.Core.Option.{Option, none, some}
+use Rattle.std.specs.Prelude.{Option, None, Some}
 use Prim.Native.Nat.{◌<◌, ◌≤◌, suc, ℕ}
 use native.Mathlib.Omega.{arith}
 use lib.Dec.{leb, ltb}
@@ -59,18 +59,18 @@ sheet-room w h s room = go (may_stand w h s) (ltb (length room) (length (sheet_t
 -- an answer fits the room that it was judged by
 judge-fits : (w room : ℕ) (c : Class) (a : Action) (o : Option Table) → length (answer_text w (judge w room c a o).shown) ≤ room
 unfolding judge decided says accept table_checks checks answer_text
-judge-fits w room c a none = omega arith
-judge-fits w room c a (some t) = go (first_of (table_checks w room c a t)) refl
+judge-fits w room c a None = omega arith
+judge-fits w room c a (Some t) = go (first_of (table_checks w room c a t)) refl
   where
-    accepted_fits : (a : Action) → first_of (table_checks w room c a t) ≡ none → length (answer_text w (accept a t).shown) ≤ room
+    accepted_fits : (a : Action) → first_of (table_checks w room c a t) ≡ None → length (answer_text w (accept a t).shown) ≤ room
     accepted_fits (insert gs) e = omega arith
     accepted_fits (delete is) e = omega arith
     accepted_fits (update es) e = omega arith
     accepted_fits (select q) e = let k = clear (table_checks w room c (select q) t) (accept (select q) t) (checks_refuse w room c (select q) t) (rw e (accept-accepts (select q) t)) in ltb-false room (length (answer_text w (answer q t.rows))) k.1.1.1.0
 
     go : (o : Option Reply) → first_of (table_checks w room c a t) ≡ o → length (answer_text w (decided o (accept a t)).shown) ≤ room
-    go none e = accepted_fits a e
-    go (some r) e = omega arith
+    go None e = accepted_fits a e
+    go (Some r) e = omega arith
 
 verdict-fits : (w room : ℕ) (s : Store) (l : Line) → length (answer_text w (verdict w room s l).shown) ≤ room
 unfolding verdict line_verdict says judgement answer_text
@@ -116,20 +116,20 @@ reading_exactly w bs r = long (leb (length bs) 65536) refl
   where
     late : (o : Option (Heading × Store)) → (judged w o ≡ refused r)
         ↔ First r ((BadSheet, ¬ There (λ (x : Heading × Store). Unit {0}) o) ∷ (RuleBroken, There (λ (x : Heading × Store). ¬ (may_stand w x.0 x.1 ≡ true)) o) ∷ [])
-    late none = (
+    late None = (
       λ e. inl (sym (refused-same e), λ t. nothing_is t.1),
       ⊎_elim (λ k. ap refused (sym k.0)) (λ k. absurd (k.0 (λ t. nothing_is t.1))),
     )
-    late (some x) = stands (may_stand w x.0 x.1) refl
+    late (Some x) = stands (may_stand w x.0 x.1) refl
       where
-        there : ¬ (¬ There (λ (y : Heading × Store). Unit {0}) (some x))
+        there : ¬ (¬ There (λ (y : Heading × Store). Unit {0}) (Some x))
         there h = h (x, refl, tt)
 
-        kept : may_stand w x.0 x.1 ≡ true → ¬ There (λ (y : Heading × Store). ¬ (may_stand w y.0 y.1 ≡ true)) (some x)
+        kept : may_stand w x.0 x.1 ≡ true → ¬ There (λ (y : Heading × Store). ¬ (may_stand w y.0 y.1 ≡ true)) (Some x)
         kept p (y, q, h) = let z : x ≡ y = cc in h (rw z at p)
 
         stands : (b : Bool) → may_stand w x.0 x.1 ≡ b → (cond b (taken x.0 x.1) (refused RuleBroken) ≡ refused r)
-            ↔ First r ((BadSheet, ¬ There (λ (y : Heading × Store). Unit {0}) (some x)) ∷ (RuleBroken, There (λ (y : Heading × Store). ¬ (may_stand w y.0 y.1 ≡ true)) (some x)) ∷ [])
+            ↔ First r ((BadSheet, ¬ There (λ (y : Heading × Store). Unit {0}) (Some x)) ∷ (RuleBroken, There (λ (y : Heading × Store). ¬ (may_stand w y.0 y.1 ≡ true)) (Some x)) ∷ [])
         stands true p = (
           λ e. absurd (taken_refused e),
           ⊎_elim (λ k. absurd (there k.1)) (λ k. ⊎_elim (λ m. absurd (kept p m.1)) (λ m. absurd m.1) k.1),
@@ -156,17 +156,17 @@ all_every : {A : Type 0} (p : A → Bool) (P : A → Type 0) → ((a : A) → p 
 all_every p P each [] e = tt
 all_every p P each (a ∷ l) e = (each a (and-fst (p a) (all p l) e), all_every p P each l (and-snd (p a) (all p l) e))
 
-row_plain_lem : (r : Row) → row_plain r ≡ true → (j : ℕ) (f : Field) → at j r.fields ≡ some f → ¬ (f.value ≡ Hidden)
+row_plain_lem : (r : Row) → row_plain r ≡ true → (j : ℕ) (f : Field) → at j r.fields ≡ Some f → ¬ (f.value ≡ Hidden)
 unfolding row_plain field_plain
 row_plain_lem r e j f q h = not-both (is_hidden f.value) ((hidden_reflects f.value).1 h) (not-true (is_hidden f.value) (all_in-at field_plain j r.fields e f q))
 
-store-plain : (s : Store) → plain s ≡ true → (d n : ℕ) (t : Table) → table_at d n s ≡ some t → table_plain t ≡ true
+store-plain : (s : Store) → plain s ≡ true → (d n : ℕ) (t : Table) → table_at d n s ≡ Some t → table_plain t ≡ true
 unfolding plain directory_plain table_at
 store-plain s e d n t q = go (at d s) refl q
   where
-    go : (o : Option Directory) → at d s ≡ o → and_then o (λ (x : Directory). at n x.tables) ≡ some t → table_plain t ≡ true
-    go none p q = nothing_is q
-    go (some x) p q = all_in-at table_plain n x.tables (all_in-at directory_plain d s e x p) t q
+    go : (o : Option Directory) → at d s ≡ o → and_then o (λ (x : Directory). at n x.tables) ≡ Some t → table_plain t ≡ true
+    go None p q = nothing_is q
+    go (Some x) p q = all_in-at table_plain n x.tables (all_in-at directory_plain d s e x p) t q
 
 pub nothing_hidden : NothingHidden
 unfolding table_plain may_stand shows

@@ -3,7 +3,7 @@
 use mathlib.Core.Path.{◌≡◌, refl, sym}
 use mathlib.Core.Bool.{Bool, false, true}
 use mathlib.Core.List.{List, [], ◌∷◌}
-use mathlib.Core.Option.{none, some}
+use Rattle.std.specs.Prelude.{None, Some}
 use Prim.Native.Nat.{◌*◌, ◌+◌, ◌≤◌, suc, ℕ}
 use native.Mathlib.Nat.{le_trans}
 use native.Mathlib.Omega.{arith}
@@ -20,20 +20,20 @@ use Rattle.model.proofs.RuleLaws.{le_tick, table-rules}
 -- the rows of all berths together
 total : Places Class → List Row → ℕ
 total [] rs = 0
-total (none ∷ bs) rs = total bs rs
-total (some b ∷ bs) rs = in_berth b rs + total bs rs
+total (None ∷ bs) rs = total bs rs
+total (Some b ∷ bs) rs = in_berth b rs + total bs rs
 
 total-more : (r : Row) (rs : List Row) (bs : Places Class) → total bs rs ≤ total bs (r ∷ rs)
 unfolding total in_berth
 total-more r rs [] = omega arith
-total-more r rs (none ∷ bs) = total-more r rs bs
-total-more r rs (some b ∷ bs) = omega (arith, total-more r rs bs, le_tick (same r.exist b) (in_berth b rs))
+total-more r rs (None ∷ bs) = total-more r rs bs
+total-more r rs (Some b ∷ bs) = omega (arith, total-more r rs bs, le_tick (same r.exist b) (in_berth b rs))
 
 total-row : (r : Row) (rs : List Row) (bs : Places Class) → any (sure (same r.exist)) bs ≡ true → suc (total bs rs) ≤ total bs (r ∷ rs)
 unfolding total in_berth
 total-row r rs [] e = not-both true refl (sym e)
-total-row r rs (none ∷ bs) e = total-row r rs bs e
-total-row r rs (some b ∷ bs) e = go (same r.exist b) refl (λ f. total-row r rs bs f)
+total-row r rs (None ∷ bs) e = total-row r rs bs e
+total-row r rs (Some b ∷ bs) e = go (same r.exist b) refl (λ f. total-row r rs bs f)
   where
     go : (y : Bool) → same r.exist b ≡ y → (any (sure (same r.exist)) bs ≡ true → suc (total bs rs) ≤ total bs (r ∷ rs))
         → suc (in_berth b rs + total bs rs) ≤ tick (same r.exist b) (in_berth b rs) + total bs (r ∷ rs)
@@ -53,8 +53,8 @@ all_counted bs ks (r ∷ rs) e =
 total_8 : (rs : List Row) (bs : Places Class) → all_in (room_ok rs) bs ≡ true → total bs rs ≤ 8 * length bs
 unfolding total room_ok
 total_8 rs [] e = omega arith
-total_8 rs (none ∷ bs) e = omega (arith, total_8 rs bs e)
-total_8 rs (some b ∷ bs) e =
+total_8 rs (None ∷ bs) e = omega (arith, total_8 rs bs e)
+total_8 rs (Some b ∷ bs) e =
     omega (arith, total_8 rs bs (and-snd (room_ok rs b) (all_in (room_ok rs) bs) e), leb-true (in_berth b rs) 8 (and-fst (room_ok rs b) (all_in (room_ok rs) bs) e))
 
 -- 8 rows for each berth

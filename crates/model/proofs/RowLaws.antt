@@ -6,7 +6,7 @@
 use mathlib.Core.Path.{◌∙◌, ◌≡◌, ap, ap₂, refl, sym}
 use mathlib.Core.Bool.{Bool, ◌&&◌, ◌||◌, cond, false, not, true}
 use mathlib.Core.List.{List, [], ◌++◌, ◌∷◌, append-nil}
-use mathlib.Core.Option.{Option, none, some}
+use Rattle.std.specs.Prelude.{Option, None, Some}
 use Prim.Native.Nat.{suc, zero, ℕ}
 use Rattle.model.specs.declared.Class.{Class}
 use Rattle.model.specs.declared.Field.{Field}
@@ -35,9 +35,9 @@ module _ (C : Class) where
 
   field_again : (k : Option Column) (f : Option Field) → view_field C k (view_field C k f) ≡ view_field C k f
   unfolding view_field
-  field_again none f = refl
-  field_again (some k) none = refl
-  field_again (some k) (some f) = ap some (hide_again f)
+  field_again None f = refl
+  field_again (Some k) None = refl
+  field_again (Some k) (Some f) = ap Some (hide_again f)
 
   fields_again : (ks : Places Column) (fs : Places Field) → view_fields C ks (view_fields C ks fs) ≡ view_fields C ks fs
   unfolding view_fields
@@ -50,11 +50,11 @@ module _ (C : Class) where
   cut_again ks r = rw fields_again
 
   module _ (ks : Places Column) (r : Row) where
-    row_seen : dominates C r.exist ≡ true → view_row C ks r ≡ some (cut C ks r)
+    row_seen : dominates C r.exist ≡ true → view_row C ks r ≡ Some (cut C ks r)
     unfolding view_row
     row_seen p = rw p
 
-    row-unseen : dominates C r.exist ≡ false → view_row C ks r ≡ none
+    row-unseen : dominates C r.exist ≡ false → view_row C ks r ≡ None
     unfolding view_row
     row-unseen p = rw p
 
@@ -111,20 +111,20 @@ module _ (C c : Class) (above : dominates C c ≡ true) (ks : Places Column) whe
   -- a field as an entry makes it
   renew_steady : (mine : Bool) (o : Option New) (f : Field) → hide C (renew c mine o f) ≡ hide C (renew c mine o (hide C f))
   unfolding renew lets put hide
-  renew_steady mine none f = sym (hide_again C f)
-  renew_steady mine (some (new_class k)) f = go mine (dominates c f.class) refl
+  renew_steady mine None f = sym (hide_again C f)
+  renew_steady mine (Some (new_class k)) f = go mine (dominates c f.class) refl
     where
       -- c sees the value, and so does C
-      go : (mine b : Bool) → dominates c f.class ≡ b → hide C (renew c mine (some (new_class k)) f) ≡ hide C (renew c mine (some (new_class k)) (hide C f))
+      go : (mine b : Bool) → dominates c f.class ≡ b → hide C (renew c mine (Some (new_class k)) f) ≡ hide C (renew c mine (Some (new_class k)) (hide C f))
       go true true p = rw (p, dominates_trans C c f.class above p)
       go true false p = rw p (sym (hide_again C f))
       go false b p = sym (hide_again C f)
-  renew_steady mine (some (new_value v)) f = go (mine || dominates f.class c)
+  renew_steady mine (Some (new_value v)) f = go (mine || dominates f.class c)
     where
       go : (b : Bool) → hide C (cond b (record { class = f.class; value = v }) f) ≡ hide C (cond b (record { class = f.class; value = v }) (hide C f))
       go true = refl
       go false = sym (hide_again C f)
-  renew_steady mine (some (new_field g)) f = go mine
+  renew_steady mine (Some (new_field g)) f = go mine
     where
       go : (b : Bool) → hide C (cond b g f) ≡ hide C (cond b g (hide C f))
       go true = refl
@@ -139,9 +139,9 @@ module _ (C c : Class) (above : dominates C c ≡ true) (ks : Places Column) whe
   fields_steady mine g (k ∷ l) (f ∷ fs) = ap₂ (λ (o : Option Field) (m : Places Field). o ∷ m) (one k f) (fields_steady mine (λ (j : ℕ). g (suc j)) l fs)
     where
       one : (k : Option Column) (f : Option Field) → view_field C k (map_o (renew c mine (g zero)) f) ≡ view_field C k (map_o (renew c mine (g zero)) (view_field C k f))
-      one none f = refl
-      one (some k) none = refl
-      one (some k) (some f) = ap some (renew_steady mine (g zero) f)
+      one None f = refl
+      one (Some k) None = refl
+      one (Some k) (Some f) = ap Some (renew_steady mine (g zero) f)
 
   amend_steady : (es : List Change) → Steady (amend c es)
   unfolding amend amend_row own view_row cut
@@ -154,13 +154,13 @@ module _ (C c : Class) (above : dominates C c ≡ true) (ks : Places Column) whe
       → view_fields C (on_places (λ (k : Column). when (p k) k) l) (fill g l) ≡ view_fields C (on_places (λ (k : Column). when (p k) k) l) (fill g (on_places (λ (k : Column). when (p k) k) l))
   unfolding view_fields view_field fill
   fill_steady p g [] = refl
-  fill_steady p g (none ∷ l) = ap (λ (m : Places Field). none ∷ m) (fill_steady p (λ (j : ℕ). g (suc j)) l)
-  fill_steady p g (some k ∷ l) = ap₂ (λ (o : Option Field) (m : Places Field). o ∷ m) (one (p k)) (fill_steady p (λ (j : ℕ). g (suc j)) l)
+  fill_steady p g (None ∷ l) = ap (λ (m : Places Field). None ∷ m) (fill_steady p (λ (j : ℕ). g (suc j)) l)
+  fill_steady p g (Some k ∷ l) = ap₂ (λ (o : Option Field) (m : Places Field). o ∷ m) (one (p k)) (fill_steady p (λ (j : ℕ). g (suc j)) l)
     where
       φ : Column → Field
       φ x = or_else (g zero) x.default
 
-      one : (b : Bool) → view_field C (when b k) (some (φ k)) ≡ view_field C (when b k) (map_o φ (when b k))
+      one : (b : Bool) → view_field C (when b k) (Some (φ k)) ≡ view_field C (when b k) (map_o φ (when b k))
       one true = refl
       one false = refl
 
@@ -222,14 +222,14 @@ module _ (C c : Class) (aside : dominates C c ≡ false) (ks : Places Column) wh
 
   renew_silent : (o : Option New) (f : Field) → hide C (renew c false o f) ≡ hide C f
   unfolding renew lets put hide
-  renew_silent none f = refl
-  renew_silent (some (new_class k)) f = refl
-  renew_silent (some (new_value v)) f = go (dominates f.class c) refl
+  renew_silent None f = refl
+  renew_silent (Some (new_class k)) f = refl
+  renew_silent (Some (new_value v)) f = go (dominates f.class c) refl
     where
       go : (b : Bool) → dominates f.class c ≡ b → hide C (cond b (record { class = f.class; value = v }) f) ≡ hide C f
       go true e = rw (above_unseen f.class e)
       go false e = refl
-  renew_silent (some (new_field g)) f = refl
+  renew_silent (Some (new_field g)) f = refl
 
   fields_silent : (g : ℕ → Option New) (l : Places Column) (fs : Places Field) → view_fields C l (renew_all c false g fs) ≡ view_fields C l fs
   unfolding view_fields view_field renew_all
@@ -238,9 +238,9 @@ module _ (C c : Class) (aside : dominates C c ≡ false) (ks : Places Column) wh
   fields_silent g (k ∷ l) (f ∷ fs) = ap₂ (λ (o : Option Field) (m : Places Field). o ∷ m) (one k f) (fields_silent (λ (j : ℕ). g (suc j)) l fs)
     where
       one : (k : Option Column) (f : Option Field) → view_field C k (map_o (renew c false (g zero)) f) ≡ view_field C k f
-      one none f = refl
-      one (some k) none = refl
-      one (some k) (some f) = ap some (renew_silent (g zero) f)
+      one None f = refl
+      one (Some k) None = refl
+      one (Some k) (Some f) = ap Some (renew_silent (g zero) f)
 
   amend_silent : (es : List Change) → Silent (amend c es)
   unfolding amend amend_row own view_row cut

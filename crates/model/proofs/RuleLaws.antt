@@ -3,7 +3,7 @@
 use mathlib.Core.Path.{◌∙◌, ◌≡◌, ap, refl, sym}
 use mathlib.Core.Bool.{Bool, ◌||◌, cond, false, false≢true, not, true}
 use mathlib.Core.List.{List, [], ◌∷◌}
-use mathlib.Core.Option.{Option, none, some}
+use Rattle.std.specs.Prelude.{Option, None, Some}
 use Prim.Native.Nat.{◌≤◌, suc-le-suc, zero, ℕ}
 use native.Mathlib.Nat.{le_refl, le-suc, le_trans}
 use lib.Dec.{eqb}
@@ -80,20 +80,20 @@ module _ (C : Class) where
   unfolding seen
   seen-keeps p b e = unless-when p (dominates C b) b (λ h. e)
 
-  seen-some : (b : Class) → dominates C b ≡ true → seen C b ≡ some b
+  seen-some : (b : Class) → dominates C b ≡ true → seen C b ≡ Some b
   unfolding seen
   seen-some b p = rw p
 
   -- two berths that stay have equal classes only where they had
   berth-same : (o o' : Option Class) → same_berth (and_then o (seen C)) (and_then o' (seen C)) ≡ true → same_berth o o' ≡ true
   unfolding same_berth seen
-  berth-same none o' e = e
-  berth-same (some a) none e = absurd (false≢true (sym (gone (dominates C a)) ∙ e))
+  berth-same None o' e = e
+  berth-same (Some a) None e = absurd (false≢true (sym (gone (dominates C a)) ∙ e))
     where
-      gone : (x : Bool) → same_berth (when x a) none ≡ false
+      gone : (x : Bool) → same_berth (when x a) None ≡ false
       gone true = refl
       gone false = refl
-  berth-same (some a) (some b) e = go (dominates C a) (dominates C b) e
+  berth-same (Some a) (Some b) e = go (dominates C a) (dominates C b) e
     where
       go : (x y : Bool) → same_berth (when x a) (when y b) ≡ true → same a b ≡ true
       go true true h = h
@@ -120,14 +120,14 @@ module _ (C : Class) where
       or_map (sure (same x) o) (any (sure (same x)) l) (sure (same x) (and_then o (seen C))) (any (sure (same x)) (on_places (seen C) l)) (one o) (any-berth x h l) e
     where
       one : (o : Option Class) → sure (same x) o ≡ true → sure (same x) (and_then o (seen C)) ≡ true
-      one none e = e
-      one (some b) e = rw (seen-some b (rw (same_eq x b e) at h)) e
+      one None e = e
+      one (Some b) e = rw (seen-some b (rw (same_eq x b e) at h)) e
 
   -- a column that stays has its group still
   sure-seen : (d : Class → Bool) (o : Option Class) → sure d o ≡ true → present (and_then o (seen C)) ≡ true → sure d (and_then o (seen C)) ≡ true
   unfolding seen
-  sure-seen d none e h = h
-  sure-seen d (some g) e h = go (dominates C g) h
+  sure-seen d None e h = h
+  sure-seen d (Some g) e h = go (dominates C g) h
     where
       go : (x : Bool) → present (when x g) ≡ true → sure d (when x g) ≡ true
       go true h = e
@@ -170,14 +170,14 @@ module _ (C : Class) where
       left : Option Column → Option Column
       left k = and_then k (λ (k : Column). when (p k) k)
 
-      stays : (b : Bool) (k : Column) (f : Field) → value_ok k.kind f.value ≡ true → field_ok (when b k) (view_field C (when b k) (some f)) ≡ true
+      stays : (b : Bool) (k : Column) (f : Field) → value_ok k.kind f.value ≡ true → field_ok (when b k) (view_field C (when b k) (Some f)) ≡ true
       stays true k f e = value_keeps k.kind f e
       stays false k f e = refl
 
       one : (k : Option Column) (f : Option Field) → field_ok k f ≡ true → field_ok (left k) (view_field C (left k) f) ≡ true
-      one none f e = refl
-      one (some k) none e = absurd (false≢true e)
-      one (some k) (some f) e = stays (p k) k f e
+      one None f e = refl
+      one (Some k) None e = absurd (false≢true e)
+      one (Some k) (Some f) e = stays (p k) k f e
 
   -- a berth has no more rows in the view, and as many where it stays
   rows_fewer : (b : Class) (ks : Places Column) (rs : List Row) → in_berth b (gather (view_row C ks) rs) ≤ in_berth b rs
@@ -260,7 +260,7 @@ module _ (C : Class) where
         columns8 = rw length-emptied f.columns8;
       }
     where
-      none_any : (l : Places Class) → any (same_berth none) l ≡ false
+      none_any : (l : Places Class) → any (same_berth None) l ≡ false
       none_any [] = refl
       none_any (o ∷ l) = none_any l
 

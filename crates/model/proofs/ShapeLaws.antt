@@ -3,7 +3,7 @@
 use mathlib.Core.Path.{◌≡◌, refl}
 use mathlib.Core.Bool.{false≢true, true}
 use mathlib.Core.List.{[], ◌∷◌}
-use mathlib.Core.Option.{none, some}
+use Rattle.std.specs.Prelude.{None, Some}
 use lib.Dec.{eqb}
 use lib.ListN.{length}
 use borrow.Author.Tests.{eqb-true}
@@ -20,17 +20,17 @@ use Rattle.model.proofs.PlacingLaws.{DirectoryShape, Shape, TableShape}
 use Rattle.model.proofs.RuleLaws.{table-rules}
 
 -- ---- shape
-fields-spread : (ks : Places Column) (fs : Places Field) → fields_ok ks fs ≡ true → spread ks (filled fs) ≡ some fs
+fields-spread : (ks : Places Column) (fs : Places Field) → fields_ok ks fs ≡ true → spread ks (filled fs) ≡ Some fs
 unfolding fields_ok field_ok spread
 fields-spread [] [] e = refl
 fields-spread [] (f ∷ fs) e = absurd (false≢true e)
 fields-spread (k ∷ ks) [] e = absurd (false≢true e)
-fields-spread (none ∷ ks) (none ∷ fs) e = rw (fields-spread ks fs e)
-fields-spread (none ∷ ks) (some f ∷ fs) e = absurd (false≢true e)
-fields-spread (some k ∷ ks) (none ∷ fs) e = absurd (false≢true e)
-fields-spread (some k ∷ ks) (some f ∷ fs) e = rw (fields-spread ks fs (and-snd (field_ok (some k) (some f)) (fields_ok ks fs) e))
+fields-spread (None ∷ ks) (None ∷ fs) e = rw (fields-spread ks fs e)
+fields-spread (None ∷ ks) (Some f ∷ fs) e = absurd (false≢true e)
+fields-spread (Some k ∷ ks) (None ∷ fs) e = absurd (false≢true e)
+fields-spread (Some k ∷ ks) (Some f ∷ fs) e = rw (fields-spread ks fs (and-snd (field_ok (Some k) (Some f)) (fields_ok ks fs) e))
 
-row-spread : (bs : Places Class) (ks : Places Column) (r : Row) → row_ok bs ks r ≡ true → spread ks (filled r.fields) ≡ some r.fields
+row-spread : (bs : Places Class) (ks : Places Column) (r : Row) → row_ok bs ks r ≡ true → spread ks (filled r.fields) ≡ Some r.fields
 unfolding row_ok
 row-spread bs ks r e = fields-spread ks r.fields (and-snd (any (sure (same r.exist)) bs) (fields_ok ks r.fields) e)
 

@@ -4,7 +4,7 @@
 use mathlib.Core.Path.{◌∙◌, ◌≡◌, ap, ap₂, refl, subst, sym}
 use mathlib.Core.Bool.{Bool, cond, false, true}
 use mathlib.Core.List.{List, [], ◌++◌, ◌∷◌, append_assoc, append-nil, map}
-use mathlib.Core.Option.{Option, none, some}
+use Rattle.std.specs.Prelude.{Option, None, Some}
 use Prim.Native.Nat.{◌≤◌, ℕ}
 use native.Mathlib.Omega.{arith}
 use lib.Dec.{leb, ltb}
@@ -34,7 +34,7 @@ use Rattle.model.proofs.RangeLaws.{records_in, records-sound}
 module _ (w : ℕ) where
   -- ---- read, then written
   -- reading on adds the records of the lines behind those that stand, and they are in range
-  read_on_made : (ls : List Bytes) (s t : Store) → read_on w ls s ≡ some t
+  read_on_made : (ls : List Bytes) (s t : Store) → read_on w ls s ≡ Some t
       → (rs : List Record) × (records t ≡ records s ++ rs) × (map (record_line w) rs ≡ ls) × Every (RecordIn w) rs
   unfolding read_on record_line
   read_on_made [] s t e = let q : s ≡ t = cc in ([], rw q (sym (append-nil (records t))), refl, tt)
@@ -50,18 +50,18 @@ module _ (w : ℕ) where
       )
 
   -- lines that are read as a store are those of its records, and these are in range
-  pub store-made : (ls : List Bytes) (s : Store) → read_store w ls ≡ some s → (map (record_line w) (records s) ≡ ls) × Every (RecordIn w) (records s)
+  pub store-made : (ls : List Bytes) (s : Store) → read_store w ls ≡ Some s → (map (record_line w) (records s) ≡ ls) × Every (RecordIn w) (records s)
   unfolding read_store records
   store-made ls s e =
       let (rs, a, b, h) = read_on_made ls (nones 4) s e in
       subst (λ (xs : List Record). (map (record_line w) xs ≡ ls) × Every (RecordIn w) xs) (sym a) (b, h)
 
-  pub store_text_lem : (ls : List Bytes) (s : Store) → read_store w ls ≡ some s → store_text w s ≡ unlines ls
+  pub store_text_lem : (ls : List Bytes) (s : Store) → read_store w ls ≡ Some s → store_text w s ≡ unlines ls
   unfolding store_text
   store_text_lem ls s e = ap unlines (store-made ls s e).0
 
   -- what is read has classes and values of ours
-  pub read-sound : (ls : List Bytes) (s : Store) → read_store w ls ≡ some s → sound w s ≡ true
+  pub read-sound : (ls : List Bytes) (s : Store) → read_store w ls ≡ Some s → sound w s ≡ true
   read-sound ls s e = records-sound w s (store-made ls s e).1
 
   -- ---- written, then read
@@ -71,10 +71,10 @@ module _ (w : ℕ) where
   read_on_run (r ∷ rs) s h = rw (line-there w r h.0) (go (place r s) (λ x. read_on_run rs x h.1))
     where
       go : (o : Option Store) → ((x : Store) → read_on w (map (record_line w) rs) x ≡ run place rs x) → and_then o (read_on w (map (record_line w) rs)) ≡ and_then o (run place rs)
-      go none ih = refl
-      go (some x) ih = ih x
+      go None ih = refl
+      go (Some x) ih = ih x
 
-  pub store-read : (s : Store) → Shape s → Every (RecordIn w) (records s) → read_store w (map (record_line w) (records s)) ≡ some s
+  pub store-read : (s : Store) → Shape s → Every (RecordIn w) (records s) → read_store w (map (record_line w) (records s)) ≡ Some s
   unfolding read_store
   store-read s h k = read_on_run (records s) (nones 4) k ∙ place-run s h
 
@@ -86,16 +86,16 @@ module _ (w : ℕ) where
 refused-taken {ℓ} : {X : Type ℓ} {r : Reply} {h : Heading} {s : Store} → refused r ≡ taken h s → X
 refused-taken e = absurd (let z : ◌≡◌ {A = ℕ} 0 1 = cc in omega arith)
 
-heading_there : (h : Heading) → read_heading (heading_text h) ≡ some h
+heading_there : (h : Heading) → read_heading (heading_text h) ≡ Some h
 unfolding read_heading heading_text is_text
 heading_there SHEET = refl
 heading_there VIEW = refl
 
-heading_back : (l : Bytes) (h : Heading) → read_heading l ≡ some h → heading_text h ≡ l
+heading_back : (l : Bytes) (h : Heading) → read_heading l ≡ Some h → heading_text h ≡ l
 unfolding read_heading heading_text
 heading_back l h e = go (is_text l (bytes "SHEET")) (is_text l (bytes "VIEW")) refl refl e
   where
-    go : (a b : Bool) → is_text l (bytes "SHEET") ≡ a → is_text l (bytes "VIEW") ≡ b → cond a (some SHEET) (cond b (some VIEW) none) ≡ some h → heading_text h ≡ l
+    go : (a b : Bool) → is_text l (bytes "SHEET") ≡ a → is_text l (bytes "VIEW") ≡ b → cond a (Some SHEET) (cond b (Some VIEW) None) ≡ Some h → heading_text h ≡ l
     go true b p q e = let z : SHEET ≡ h = cc in rw (← z) (sym (text_is l (bytes "SHEET") p))
     go false true p q e = let z : VIEW ≡ h = cc in rw (← z) (sym (text_is l (bytes "VIEW") q))
     go false false p q e = nothing_is e
@@ -112,7 +112,7 @@ module _ (w : ℕ) where
   sheet_lines_lem h s = refl
 
   -- written, then read
-  pub sheet-there : (h : Heading) (s : Store) → rules w s ≡ true → read_sheet w (sheet_text w h s) ≡ some (h, s)
+  pub sheet-there : (h : Heading) (s : Store) → rules w s ≡ true → read_sheet w (sheet_text w h s) ≡ Some (h, s)
   unfolding read_sheet read_lines rules
   sheet-there h s e =
       let r = and-fst (ruled s) (sound w s) e in
@@ -121,20 +121,20 @@ module _ (w : ℕ) where
       rw (sheet_lines_lem h s, free, heading_there h, store-read w s (ruled_shape s r) k)
 
   -- heading and store were read
-  pub sheet-parts : {h : Heading} {s : Store} (l : Bytes) (ls : List Bytes) → read_lines w (l ∷ ls) ≡ some (h, s) → (read_heading l ≡ some h) × (read_store w ls ≡ some s)
+  pub sheet-parts : {h : Heading} {s : Store} (l : Bytes) (ls : List Bytes) → read_lines w (l ∷ ls) ≡ Some (h, s) → (read_heading l ≡ Some h) × (read_store w ls ≡ Some s)
   unfolding read_lines
   sheet-parts {h} {s} l ls e =
       let (g, p, e₁) = then_some (read_heading l) _ (h, s) e in
       let (t, q, e₂) = then_some (read_store w ls) _ (h, s) e₁ in
       let z : ◌≡◌ {A = Heading × Store} (g, t) (h, s) = cc in
-      (p ∙ ap (λ (x : Heading × Store). some x.0) z, q ∙ ap (λ (x : Heading × Store). some x.1) z)
+      (p ∙ ap (λ (x : Heading × Store). Some x.0) z, q ∙ ap (λ (x : Heading × Store). Some x.1) z)
 
   -- read, then written: whatever the rules say
-  pub sheet-back : (bs : Bytes) (h : Heading) (s : Store) → read_sheet w bs ≡ some (h, s) → sheet_text w h s ≡ bs
+  pub sheet-back : (bs : Bytes) (h : Heading) (s : Store) → read_sheet w bs ≡ Some (h, s) → sheet_text w h s ≡ bs
   unfolding read_sheet
   sheet-back bs h s e = let (ls, p, q) = then_some (lines bs) (read_lines w) (h, s) e in go ls q ∙ lines-unlines bs ls p
     where
-      go : (ls : List Bytes) → read_lines w ls ≡ some (h, s) → sheet_text w h s ≡ unlines ls
+      go : (ls : List Bytes) → read_lines w ls ≡ Some (h, s) → sheet_text w h s ≡ unlines ls
       go [] e = unfold read_lines in nothing_is e
       go (l ∷ ls) e = let (p, q) = sheet-parts l ls e in unfold sheet_text unlines in ap₂ (λ (x y : Bytes). ended x ++ y) (heading_back l h p) (store_text_lem w ls s q)
 
@@ -145,16 +145,16 @@ module _ (w : ℕ) where
   taken-there bs h s m n q = rw (le-leb (length bs) 65536 n, ← q, sheet-there h s (and-fst (rules w s) (shows h s) m), m)
 
   -- and only there
-  judged-back : (o : Option (Heading × Store)) (h : Heading) (s : Store) → judged w o ≡ taken h s → (may_stand w h s ≡ true) × (o ≡ some (h, s))
+  judged-back : (o : Option (Heading × Store)) (h : Heading) (s : Store) → judged w o ≡ taken h s → (may_stand w h s ≡ true) × (o ≡ Some (h, s))
   unfolding judged
-  judged-back none h s e = refused-taken e
-  judged-back (some x) h s e = go (may_stand w x.0 x.1) refl e
+  judged-back None h s e = refused-taken e
+  judged-back (Some x) h s e = go (may_stand w x.0 x.1) refl e
     where
-      go : (t : Bool) → may_stand w x.0 x.1 ≡ t → cond t (taken x.0 x.1) (refused RuleBroken) ≡ taken h s → (may_stand w h s ≡ true) × (some x ≡ some (h, s))
+      go : (t : Bool) → may_stand w x.0 x.1 ≡ t → cond t (taken x.0 x.1) (refused RuleBroken) ≡ taken h s → (may_stand w h s ≡ true) × (Some x ≡ Some (h, s))
       go true p e =
           let i : x.0 ≡ h = cc in
           let j : x.1 ≡ s = cc in
-          (ap₂ (may_stand w) (sym i) (sym j) ∙ p, λ k. some (i k, j k))
+          (ap₂ (may_stand w) (sym i) (sym j) ∙ p, λ k. Some (i k, j k))
       go false p e = refused-taken e
 
   taken_back : (bs : Bytes) (h : Heading) (s : Store) → reading w bs ≡ taken h s → (may_stand w h s ≡ true) × (length bs ≤ 65536) × (sheet_text w h s ≡ bs)

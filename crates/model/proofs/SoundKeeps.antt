@@ -3,7 +3,7 @@
 use mathlib.Core.Path.{◌≡◌, refl}
 use mathlib.Core.Bool.{Bool, ◌&&◌, true}
 use mathlib.Core.List.{List, [], ◌∷◌}
-use mathlib.Core.Option.{Option, none, some}
+use Rattle.std.specs.Prelude.{Option, None, Some}
 use Prim.Native.Nat.{suc, zero, ℕ}
 use Rattle.model.specs.declared.Class.{Class}
 use Rattle.model.specs.declared.Field.{Field}
@@ -57,12 +57,12 @@ module _ (w : ℕ) where
   module _ (c : Class) where
     renew-sound : (mine : Bool) (o : Option New) (f : Option Field)
         → unless new_sound o ≡ true → unless (field_sound w) f ≡ true → unless (field_sound w) (map_o (renew c mine o) f) ≡ true
-    renew-sound mine o none h e = refl
-    renew-sound mine o (some f) h e = renew_passes (field_sound w) c mine o f (go o h) e
+    renew-sound mine o None h e = refl
+    renew-sound mine o (Some f) h e = renew_passes (field_sound w) c mine o f (go o h) e
       where
         go : (o : Option New) → unless new_sound o ≡ true → unless (λ (n : New). field_sound w (put n f)) o ≡ true
-        go none h = refl
-        go (some n) h = put-sound n f h e
+        go None h = refl
+        go (Some n) h = put-sound n f h e
 
     renewed_sound : (mine : Bool) (g : ℕ → Option New) → ((j : ℕ) → unless new_sound (g j) ≡ true)
         → (fs : Places Field) → all_in (field_sound w) fs ≡ true → all_in (field_sound w) (renew_all c mine g fs) ≡ true
@@ -85,8 +85,8 @@ module _ (w : ℕ) where
         → (ks : Places Column) → all_in (column_sound w) ks ≡ true → all_in (field_sound w) (fill g ks) ≡ true
     unfolding fill column_sound
     fill-sound g h [] e = refl
-    fill-sound g h (none ∷ ks) e = fill-sound (λ (j : ℕ). g (suc j)) (λ j. h (suc j)) ks e
-    fill-sound g h (some k ∷ ks) e =
+    fill-sound g h (None ∷ ks) e = fill-sound (λ (j : ℕ). g (suc j)) (λ j. h (suc j)) ks e
+    fill-sound g h (Some k ∷ ks) e =
         both (field_sound w (or_else (g zero) k.default)) (all_in (field_sound w) (fill (λ (j : ℕ). g (suc j)) ks))
         (or_else_passes (field_sound w) (g zero) k.default (h zero) (and-fst (column_sound w k) (all_in (column_sound w) ks) e))
         (fill-sound (λ (j : ℕ). g (suc j)) (λ j. h (suc j)) ks (and-snd (column_sound w k) (all_in (column_sound w) ks) e))

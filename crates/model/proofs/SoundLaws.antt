@@ -3,7 +3,7 @@
 use mathlib.Core.Path.{◌≡◌, refl}
 use mathlib.Core.Bool.{Bool, cond, false, true}
 use mathlib.Core.List.{[], ◌∷◌}
-use mathlib.Core.Option.{Option, none, some}
+use Rattle.std.specs.Prelude.{Option, None, Some}
 use Prim.Native.Nat.{ℕ}
 use Rattle.model.specs.declared.Class.{Class}
 use Rattle.model.specs.declared.Field.{Field}
@@ -60,9 +60,9 @@ module _ (w : ℕ) (C : Class) where
 
   field_sound_lem : (k : Option Column) (f : Option Field) → unless (field_sound w) f ≡ true → unless (field_sound w) (view_field C k f) ≡ true
   unfolding view_field
-  field_sound_lem none f e = refl
-  field_sound_lem (some k) none e = refl
-  field_sound_lem (some k) (some f) e = hide-sound f e
+  field_sound_lem None f e = refl
+  field_sound_lem (Some k) None e = refl
+  field_sound_lem (Some k) (Some f) e = hide-sound f e
 
   fields-sound : (ks : Places Column) (fs : Places Field) → all_in (field_sound w) fs ≡ true → all_in (field_sound w) (view_fields C ks fs) ≡ true
   unfolding view_fields

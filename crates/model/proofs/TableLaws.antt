@@ -4,7 +4,7 @@ use mathlib.Core.Path.{◌≡◌, refl, sym}
 use mathlib.Core.Logic.{◌↔◌, inl, inr, ⊎_elim}
 use mathlib.Core.Bool.{Bool, cond, false, false≢true, not, true}
 use mathlib.Core.List.{List, [], ◌++◌, ◌∷◌}
-use mathlib.Core.Option.{Option, none, some}
+use Rattle.std.specs.Prelude.{Option, None, Some}
 use Prim.Native.Nat.{ℕ}
 use lib.ListN.{length}
 use Rattle.model.specs.declared.Class.{Class}
@@ -104,8 +104,8 @@ module _ (w room : ℕ) (c : Class) where
 
   judge-given : (a : Action) (o : Option Table) (r : Reply) → ((judge w room c a o).reply ≡ r) ↔ First r (table_rows w room c a o)
   unfolding judge says
-  judge-given a none r = row_last NoTable r
-  judge-given a (some t) r = first-given (table_agrees a t) _ (accept a t) r (accept-given a t r)
+  judge-given a None r = row_last NoTable r
+  judge-given a (Some t) r = first-given (table_agrees a t) _ (accept a t) r (accept-given a t r)
 
 line-given : (w room : ℕ) (s : Store) (l : Line) (r : Reply) → ((line_verdict w room s l).reply ≡ r) ↔ First r (line_rows w room s l)
 unfolding line_verdict says judgement

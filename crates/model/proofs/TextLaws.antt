@@ -4,7 +4,7 @@ use lib.Ieee as ieee
 use mathlib.Core.Path.{◌∙◌, ◌≡◌, ap, ap₂, refl, sym}
 use mathlib.Core.Bool.{Bool, cond, false, not, true}
 use mathlib.Core.List.{List, [], ◌∷◌}
-use mathlib.Core.Option.{some}
+use Rattle.std.specs.Prelude.{Some}
 use Prim.Native.Char.{code}
 use Prim.Native.Nat.{◌%◌, ◌+◌, ◌-◌, ◌/◌, ◌<◌, ◌^◌, ◌≤◌, suc, zero, ℕ}
 use native.Mathlib.Omega.{arith}
@@ -52,7 +52,7 @@ number-sure limit = record { there = λ n h. dec_read limit n h; back = λ s n e
     clean n = unfold dec_text in digits-clean 10 (places n n) n
 
 -- ---- letters
-pub letter_back : {A : Type 0} (byte : A → ℕ) (l : List (ℕ × A)) → Agree byte l → (s : Bytes) (a : A) → read_letter l s ≡ some a → byte a ∷ [] ≡ s
+pub letter_back : {A : Type 0} (byte : A → ℕ) (l : List (ℕ × A)) → Agree byte l → (s : Bytes) (a : A) → read_letter l s ≡ Some a → byte a ∷ [] ≡ s
 unfolding read_letter
 letter_back byte l h [] a e = nothing_is e
 letter_back byte l h (b ∷ []) a e = ap (λ (x : ℕ). x ∷ []) (picked byte l h b a e)
@@ -64,7 +64,7 @@ kind-sure = record { there = there; back = letter_back kind_letter kinds agree; 
     agree : Agree kind_letter kinds
     agree = unfold kind_letter in (refl, (refl, (refl, tt)))
 
-    there : (k : Kind) → Unit {0} → read_letter kinds (kind_letter k ∷ []) ≡ some k
+    there : (k : Kind) → Unit {0} → read_letter kinds (kind_letter k ∷ []) ≡ Some k
     there Counts u = unfold kind_letter read_letter in refl
     there Rates u = unfold kind_letter read_letter in refl
     there Classes u = unfold kind_letter read_letter in refl
@@ -94,7 +94,7 @@ rate_text w b h = go (nan_bits binary32 b) refl
 
 -- ---- classes, values, fields
 -- nothing behind the mark
-alone-back : (x v : Value) (l : Bytes) → alone x l ≡ some v → (x ≡ v) × (l ≡ [])
+alone-back : (x v : Value) (l : Bytes) → alone x l ≡ Some v → (x ≡ v) × (l ≡ [])
 alone-back x v [] e = (cc, refl)
 alone-back x v (b ∷ l) e = nothing_is e
 
@@ -111,21 +111,21 @@ module _ (w : ℕ) where
   abbrev pub ClassIn : Class → Type 0
   ClassIn k = class_sound w k ≡ true
 
-  class-parts : (b : ℕ) (bs : Bytes) (k : Class) → read_class w (b ∷ bs) ≡ some k → (48 + k.level ≡ b) × (k.level < 4) × (read_hex w bs ≡ some k.marks)
+  class-parts : (b : ℕ) (bs : Bytes) (k : Class) → read_class w (b ∷ bs) ≡ Some k → (48 + k.level ≡ b) × (k.level < 4) × (read_hex w bs ≡ Some k.marks)
   unfolding read_class
   class-parts b bs k e =
       let (t, x) = cond-some (between 48 b 51) (map_o (λ (m : ℕ). record { level = b - 48; marks = m }) (read_hex w bs)) k e in
       let (m, p, q) = map-some (λ (m : ℕ). record { level = b - 48; marks = m }) (read_hex w bs) k x in
       let r : (48 ≤ b) × (b ≤ 51) = range_has 48 b 51 t in
       let l : b - 48 ≡ k.level = ap (λ (k : Class). k.level) q in
-      (omega arith, omega arith, p ∙ ap (λ (k : Class). some k.marks) q)
+      (omega arith, omega arith, p ∙ ap (λ (k : Class). Some k.marks) q)
 
-  class_back : (s : Bytes) (k : Class) → read_class w s ≡ some k → class_text w k ≡ s
+  class_back : (s : Bytes) (k : Class) → read_class w s ≡ Some k → class_text w k ≡ s
   unfolding read_class class_text
   class_back [] k e = nothing_is e
   class_back (b ∷ bs) k e = let (p, q, r) = class-parts b bs k e in ap₂ (λ (x : ℕ) (l : Bytes). x ∷ l) (omega arith) (hex_text w k.marks bs r).1
 
-  pub class-read-sound : (l : Bytes) (k : Class) → read_class w l ≡ some k → class_sound w k ≡ true
+  pub class-read-sound : (l : Bytes) (k : Class) → read_class w l ≡ Some k → class_sound w k ≡ true
   unfolding read_class class_sound
   class-read-sound [] k e = nothing_is e
   class-read-sound (b ∷ bs) k e =
@@ -135,7 +135,7 @@ module _ (w : ℕ) where
   pub class-sure : Sure (class w) ClassIn
   class-sure = record { there = there; back = class_back; sound = class-read-sound; clean = clean }
     where
-      there : (k : Class) → ClassIn k → read_class w (class_text w k) ≡ some k
+      there : (k : Class) → ClassIn k → read_class w (class_text w k) ≡ Some k
       there k h =
           unfold read_class class_text class_sound in
           let l : k.level ≤ 3 = leb-true k.level 3 (and-fst (leb k.level 3) (ltb k.marks (16 ^ w)) h) in
@@ -147,7 +147,7 @@ module _ (w : ℕ) where
       clean : (k : Class) → Clean (class_text w k)
       clean k = unfold class_text in (omega arith, digits-clean 16 w k.marks)
 
-  value_there : (v : Value) → value_sound w v ≡ true → read_value w (value_text w v) ≡ some v
+  value_there : (v : Value) → value_sound w v ≡ true → read_value w (value_text w v) ≡ Some v
   unfolding read_value read_marked value_text marked_text mark value_sound rate_of
   value_there Blank h = refl
   value_there (Count n) h = let l : n < 2 ^ 32 = ltb-true n (2 ^ 32) h in rw (dec_read 4294967295 n (omega arith))
@@ -161,7 +161,7 @@ module _ (w : ℕ) where
   value_there (Classed k) h = rw (class-sure.there k h)
   value_there Hidden h = refl
 
-  marked-back : (m : Mark) (l : Bytes) (v : Value) → read_marked w m l ≡ some v → value_text w v ≡ mark_byte m ∷ l
+  marked-back : (m : Mark) (l : Bytes) (v : Value) → read_marked w m l ≡ Some v → value_text w v ≡ mark_byte m ∷ l
   unfolding read_marked value_text marked_text mark mark_byte
   marked-back dash l v e = let (p, q) = alone-back Blank v l e in rw (← p, q)
   marked-back letter_n l v e = let (n, p, q) = map-some Count (read_dec 4294967295 l) v e in rw (← q, (dec_text_lem 4294967295 n l p).1)
@@ -171,14 +171,14 @@ module _ (w : ℕ) where
   marked-back letter_k l v e = let (k, p, q) = map-some Classed (read_class w l) v e in rw (← q, class_back l k p)
   marked-back query l v e = let (p, q) = alone-back Hidden v l e in rw (← p, q)
 
-  value-back : (s : Bytes) (v : Value) → read_value w s ≡ some v → value_text w v ≡ s
+  value-back : (s : Bytes) (v : Value) → read_value w s ≡ Some v → value_text w v ≡ s
   unfolding read_value mark_byte
   value-back [] v e = nothing_is e
   value-back (b ∷ l) v e =
       let (m, p, q) = then_some (pick marks b) (λ (m : Mark). read_marked w m l) v e in
       marked-back m l v q ∙ ap (λ (x : ℕ). x ∷ l) (picked mark_byte marks (refl, (refl, (refl, (refl, (refl, tt))))) b m p)
 
-  marked-sound : (m : Mark) (l : Bytes) (v : Value) → read_marked w m l ≡ some v → value_sound w v ≡ true
+  marked-sound : (m : Mark) (l : Bytes) (v : Value) → read_marked w m l ≡ Some v → value_sound w v ≡ true
   unfolding read_marked value_sound
   marked-sound dash l v e = let (p, q) = alone-back Blank v l e in rw (← p)
   marked-sound letter_n l v e =
@@ -189,7 +189,7 @@ module _ (w : ℕ) where
   marked-sound letter_k l v e = let (k, p, q) = map-some Classed (read_class w l) v e in rw (← q) (class-read-sound l k p)
   marked-sound query l v e = let (p, q) = alone-back Hidden v l e in rw (← p)
 
-  pub value-read-sound : (l : Bytes) (v : Value) → read_value w l ≡ some v → value_sound w v ≡ true
+  pub value-read-sound : (l : Bytes) (v : Value) → read_value w l ≡ Some v → value_sound w v ≡ true
   unfolding read_value
   value-read-sound [] v e = nothing_is e
   value-read-sound (b ∷ l) v e = let (m, p, q) = then_some (pick marks b) (λ (m : Mark). read_marked w m l) v e in marked-sound m l v q
@@ -217,7 +217,7 @@ module _ (w : ℕ) where
   unfolding field_sound
   of_parts k v h e = both (class_sound w k) (value_sound w v) h e
 
-  fields-there : (fs : List Field) → Every FieldIn fs → read_fields w (field_texts w fs) ≡ some fs
+  fields-there : (fs : List Field) → Every FieldIn fs → read_fields w (field_texts w fs) ≡ Some fs
   unfolding field_texts read_fields
   fields-there [] h = refl
   fields-there (f ∷ fs) h =
@@ -225,8 +225,8 @@ module _ (w : ℕ) where
       rw (class-sure.there f.class c, value-sure.there f.value v, fields-there fs h.1)
 
   -- class, value and the others were read
-  fields-parts : (k v : Bytes) (l : List Bytes) (fs : List Field) → read_fields w (k ∷ v ∷ l) ≡ some fs
-      → (c : Class) × (x : Value) × (gs : List Field) × (read_class w k ≡ some c) × (read_value w v ≡ some x) × (read_fields w l ≡ some gs) × (record { class = c; value = x } ∷ gs ≡ fs)
+  fields-parts : (k v : Bytes) (l : List Bytes) (fs : List Field) → read_fields w (k ∷ v ∷ l) ≡ Some fs
+      → (c : Class) × (x : Value) × (gs : List Field) × (read_class w k ≡ Some c) × (read_value w v ≡ Some x) × (read_fields w l ≡ Some gs) × (record { class = c; value = x } ∷ gs ≡ fs)
   unfolding read_fields
   fields-parts k v l fs e =
       let (c, p, e₁) = then_some (read_class w k) _ fs e in
@@ -234,7 +234,7 @@ module _ (w : ℕ) where
       let (gs, r, e₃) = then_some (read_fields w l) _ fs e₂ in
       (c, x, gs, p, q, r, cc)
 
-  fields_back : (l : List Bytes) (fs : List Field) → read_fields w l ≡ some fs → field_texts w fs ≡ l
+  fields_back : (l : List Bytes) (fs : List Field) → read_fields w l ≡ Some fs → field_texts w fs ≡ l
   unfolding field_texts read_fields
   fields_back [] fs e = let q : [] ≡ fs = cc in rw (← q)
   fields_back (k ∷ []) fs e = nothing_is e
@@ -242,7 +242,7 @@ module _ (w : ℕ) where
       let (c, x, gs, p, q, r, z) = fields-parts k v l fs e in
       rw (← z, class_back k c p, value-back v x q, fields_back l gs r)
 
-  fields-sound : (l : List Bytes) (fs : List Field) → read_fields w l ≡ some fs → Every FieldIn fs
+  fields-sound : (l : List Bytes) (fs : List Field) → read_fields w l ≡ Some fs → Every FieldIn fs
   unfolding read_fields
   fields-sound [] fs e = let q : [] ≡ fs = cc in rw (← q) tt
   fields-sound (k ∷ []) fs e = nothing_is e

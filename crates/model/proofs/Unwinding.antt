@@ -4,7 +4,7 @@
 use mathlib.Core.Path.{◌∙◌, ◌≡◌, ap, ap₂, refl, sym}
 use mathlib.Core.Bool.{Bool, cond, false, true}
 use mathlib.Core.List.{List}
-use mathlib.Core.Option.{some}
+use Rattle.std.specs.Prelude.{Some}
 use Prim.Native.Nat.{ℕ}
 use Rattle.model.specs.declared.Class.{Class}
 use Rattle.model.specs.Places.{Places, alter, and_then, at, gather, map_o, on_places, present, when}
@@ -61,7 +61,7 @@ module _ (C c : Class) (above : dominates C c ≡ true) (a : Action) where
   tables_steady k n l = go (dominates C k) refl
     where
       go : (b : Bool) → dominates C k ≡ b → view_tables C k (alter n (map_o (change_table c a)) l) ≡ view_tables C k (alter n (map_o (change_table c a)) (view_tables C k l))
-      go true p = rw p (alter_steady (keep_table C) (change_table c a) (λ t. ap some (table_again C t)) (λ t. ap some (table_steady t)) n l)
+      go true p = rw p (alter_steady (keep_table C) (change_table c a) (λ t. ap Some (table_again C t)) (λ t. ap Some (table_steady t)) n l)
       go false p = rw p (simp (emptied-alter, emptied-emptied))
 
   directory_steady : (n : ℕ) (d : Directory)
@@ -71,7 +71,7 @@ module _ (C c : Class) (above : dominates C c ≡ true) (a : Action) where
     where
       go : (b : Bool) → dominates C d.exist ≡ b
           → view_directory C (change_directory n (change_table c a) d) ≡ and_then (view_directory C d) (λ (x : Directory). view_directory C (change_directory n (change_table c a) x))
-      go true p = rw (p, p) (ap (λ (l : Places Table). some (record { exist = d.exist; class = d.class; tables = l })) (tables_steady d.class n d.tables))
+      go true p = rw (p, p) (ap (λ (l : Places Table). Some (record { exist = d.exist; class = d.class; tables = l })) (tables_steady d.class n d.tables))
       go false p = rw p
 
 -- ---- C does not dominate c
@@ -95,7 +95,7 @@ module _ (C c : Class) (aside : dominates C c ≡ false) (a : Action) where
   unfolding view_tables keep_table
   tables_silent k n l =
       ap₂ (λ (x y : Places Table). cond (dominates C k) x y)
-      (alter_silent (keep_table C) (change_table c a) (λ t. ap some (table_silent t)) n l) (emptied-alter (change_table c a) n l)
+      (alter_silent (keep_table C) (change_table c a) (λ t. ap Some (table_silent t)) n l) (emptied-alter (change_table c a) n l)
 
   directory_silent : (n : ℕ) (d : Directory) → view_directory C (change_directory n (change_table c a) d) ≡ view_directory C d
   unfolding view_directory cut_directory change_directory

@@ -3,7 +3,7 @@
 use mathlib.Core.Path.{◌∙◌, ◌≡◌, ap, ap₂, refl}
 use mathlib.Core.Bool.{Bool, ◌&&◌, cond, false, true}
 use mathlib.Core.List.{List, [], ◌∷◌}
-use mathlib.Core.Option.{Option, none, some}
+use Rattle.std.specs.Prelude.{Option, None, Some}
 use Rattle.model.specs.declared.Class.{Class}
 use Rattle.model.specs.declared.Field.{Field}
 use Rattle.model.specs.declared.Value.TheVariants.{Hidden}
@@ -59,13 +59,13 @@ module _ (C c : Class) where
   fields-two h (k ∷ ks) (f ∷ fs) = ap₂ (λ (o : Option Field) (l : Places Field). o ∷ l) (one k f) (fields-two h ks fs)
     where
       stays : (o : Option Column) (f : Option Field) → view_field c o (map_o (hide C) f) ≡ view_field (common C c) o f
-      stays none f = refl
-      stays (some k) none = refl
-      stays (some k) (some f) = ap some (hide-two f)
+      stays None f = refl
+      stays (Some k) None = refl
+      stays (Some k) (Some f) = ap Some (hide-two f)
 
       one : (k : Option Column) (f : Option Field) → view_field c (and_then k h) (view_field C k f) ≡ view_field (common C c) (and_then k h) f
-      one none f = refl
-      one (some k) f = stays (h k) f
+      one None f = refl
+      one (Some k) f = stays (h k) f
 
   row-two : (h : Column → Option Column) (ks : Places Column) (r : Row)
       → and_then (view_row C ks r) (view_row c (on_places h ks)) ≡ view_row (common C c) (on_places h ks) r
@@ -115,7 +115,7 @@ module _ (C c : Class) where
   tables-two k l = go (dominates C k) (dominates c k) refl refl
     where
       go : (a b : Bool) → dominates C k ≡ a → dominates c k ≡ b → view_tables c k (view_tables C k l) ≡ view_tables (common C c) k l
-      go true true p q = rw (dominates-common, p, q) (on_places-two (keep_table C) (keep_table c) (keep_table (common C c)) (λ t. ap some (table-two t)) l)
+      go true true p q = rw (dominates-common, p, q) (on_places-two (keep_table C) (keep_table c) (keep_table (common C c)) (λ t. ap Some (table-two t)) l)
       go true false p q = rw (dominates-common, p, q) (simp emptied-on_places)
       go false true p q = rw (dominates-common, p, q) (simp on_places-emptied)
       go false false p q = rw (dominates-common, p, q) (simp emptied-emptied)

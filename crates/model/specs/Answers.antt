@@ -1,7 +1,7 @@
 -- What select answers, as rows and as bytes. 01, "Commands", Select, and the `R` lines of "Sheets and tapes".
 -- Assumes nothing.
 use Rattle.std.specs.Prelude.{Bool, true, false, ◌&&◌, not, List, [], ◌∷◌, ℕ, zero, suc}
-use Rattle.std.proofs.Math.Option.{Option, none, some}
+use Rattle.std.specs.Prelude.{Option, None, Some}
 use Rattle.model.specs.declared.Field.{Field}
 use Rattle.model.specs.Places.{when, at, sure, gather, filled}
 use Rattle.model.specs.Values.{is_hidden, same_value}
@@ -22,13 +22,13 @@ numbered_from n (r ∷ rs) = record { number = n; row = r } ∷ numbered_from (s
 
 -- the row's condition field is hidden
 unfoldable pub unknown : Option Condition → Row → Bool
-unknown none r = false
-unknown (some q) r = sure (λ (f : Field). is_hidden f.value) (at q.column r.fields)
+unknown None r = false
+unknown (Some q) r = sure (λ (f : Field). is_hidden f.value) (at q.column r.fields)
 
 -- the row's condition field is not hidden, and its value equals the one asked for
 unfoldable pub meets : Option Condition → Row → Bool
-meets none r = true
-meets (some q) r = sure (λ (f : Field). not (is_hidden f.value) && same_value q.value f.value) (at q.column r.fields)
+meets None r = true
+meets (Some q) r = sure (λ (f : Field). not (is_hidden f.value) && same_value q.value f.value) (at q.column r.fields)
 
 -- the visible rows that stay, with their visible numbers
 unfoldable pub answer : Option Condition → List Row → List Shown

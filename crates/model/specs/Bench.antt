@@ -1,7 +1,7 @@
 -- The bench program, from the bytes that it reads to the bytes that it writes. 01, "Sheets and tapes", the paragraph of that name.
 -- Assumes nothing.
 use Rattle.std.specs.Prelude.{Bool, true, false, cond, List, [], ◌∷◌, ◌++◌, map, ℕ, suc, leb, length}
-use Rattle.std.proofs.Math.Option.{Option, none, some}
+use Rattle.std.specs.Prelude.{Option, None, Some}
 use Rattle.model.specs.declared.Reply.{Reply}
 use Rattle.model.specs.declared.Reply.TheVariants.{SheetLong, BadSheet}
 use Rattle.model.specs.Places.{when}
@@ -35,8 +35,8 @@ sheet_lines [] = []
 sheet_lines (l ∷ ls) = cond (is_tape l) [] (l ∷ sheet_lines ls)
 
 unfoldable pub tape_lines : List Bytes → Option (List Bytes)
-tape_lines [] = none
-tape_lines (l ∷ ls) = cond (is_tape l) (some ls) (tape_lines ls)
+tape_lines [] = None
+tape_lines (l ∷ ls) = cond (is_tape l) (Some ls) (tape_lines ls)
 
 -- ---- the sheet: a VIEW is not of the form, whatever its rules
 unfoldable pub is_sheet : Heading → Bool
@@ -44,8 +44,8 @@ is_sheet SHEET = true
 is_sheet VIEW = false
 
 unfoldable pub sheet_only : Option (Heading × Store) → Option (Heading × Store)
-sheet_only none = none
-sheet_only (some x) = when (is_sheet x.0) x
+sheet_only None = None
+sheet_only (Some x) = when (is_sheet x.0) x
 
 -- ---- the output
 -- the room for one command's answer, longer than any answer
@@ -83,8 +83,8 @@ module _ (w : ℕ) where
   untaped ls (b ∷ l) = refused BadSheet
 
   unfoldable pub ran_lines : List Bytes → Option (List Bytes) → Bytes → Bytes
-  ran_lines ls none rest = ran_on [] (untaped ls rest)
-  ran_lines ls (some tape) rest = ran_on (map (read_line w) tape ++ last_line rest) (sheet_reading (sheet_lines ls))
+  ran_lines ls None rest = ran_on [] (untaped ls rest)
+  ran_lines ls (Some tape) rest = ran_on (map (read_line w) tape ++ last_line rest) (sheet_reading (sheet_lines ls))
 
   unfoldable pub bench : Bytes → Bytes
   bench input =

@@ -2,7 +2,7 @@
 -- them look at the table as the client's view has it, and at nothing else. A test is over all entries of the command.
 -- Assumes nothing.
 use Rattle.std.specs.Prelude.{Bool, true, false, ◌&&◌, ◌||◌, not, List, [], ◌∷◌, ℕ, zero, suc, eqb, leb, ltb, length}
-use Rattle.std.proofs.Math.Option.{Option, none, some}
+use Rattle.std.specs.Prelude.{Option, None, Some}
 use Rattle.model.specs.declared.Class.{Class}
 use Rattle.model.specs.declared.Kind.{Kind}
 use Rattle.model.specs.declared.Field.{Field}
@@ -76,12 +76,12 @@ uncovers e r = uncovers_at e.new (at e.column r.fields)
 
 -- ---- 6 and 9 of a condition
 unfoldable pub asks_unseen : Table → Option Condition → Bool
-asks_unseen t none = false
-asks_unseen t (some q) = no_column t q.column
+asks_unseen t None = false
+asks_unseen t (Some q) = no_column t q.column
 
 unfoldable pub asks_misfit : Table → Option Condition → Bool
-asks_misfit t none = false
-asks_misfit t (some q) = misfit t q.column (new_value q.value)
+asks_misfit t None = false
+asks_misfit t (Some q) = misfit t q.column (new_value q.value)
 
 -- ---- the table
 abbrev pub Check : Type 0
@@ -122,9 +122,9 @@ module _ (w : ℕ) (room : ℕ) (c : Class) where
 
 -- the reply of the first test that passes
 abbrev pub or_next : Bool → Reply → Option Reply → Option Reply
-or_next true r o = some r
+or_next true r o = Some r
 or_next false r o = o
 
 abbrev pub first_of : List Check → Option Reply
-first_of [] = none
+first_of [] = None
 first_of (k ∷ ks) = or_next k.1 k.0 (first_of ks)

@@ -1,7 +1,7 @@
 -- What is proved of the definitions. Each claim is a type; proofs/Theorems.antt has a proof of each.
 -- Assumes nothing.
 use Rattle.std.specs.Prelude.{◌≡◌, ◌↔◌, ◌⊎◌, ◌&&◌, false, true, List, [], ◌++◌, ◌∷◌, ◌≤◌, ℕ, length, take}
-use Rattle.std.proofs.Math.Option.{Option, some}
+use Rattle.std.specs.Prelude.{Option, Some}
 use Rattle.model.specs.declared.Class.{Class}
 use Rattle.model.specs.declared.Field.{Field}
 use Rattle.model.specs.declared.Reply.{Reply}
@@ -23,7 +23,7 @@ use Rattle.model.specs.Answers.{Shown, answer}
 use Rattle.model.specs.Effects.{change_table}
 use Rattle.model.specs.Verdicts.{Offer, changed, judge, judgement, outcome, verdict}
 use Rattle.model.specs.Tapes.{final, known, known_of, log}
-use Rattle.model.specs.Conditions.{Above, Every, First, Good, NoneHolds, Some, Visible, all_rows, reading_rows, refusal_rows, writing_rows}
+use Rattle.model.specs.Conditions.{Above, Every, First, Good, NoneHolds, SomeOf, Visible, all_rows, reading_rows, refusal_rows, writing_rows}
 use Rattle.model.specs.Plainly.{Met, amend_named, classes_of, plainly, strike_named}
 use Rattle.model.specs.Cards.{got, want}
 
@@ -83,13 +83,13 @@ Accepting = (r : Reply) → (accepts r ≡ true) ↔ ((r ≡ Done) ⊎ (r ≡ Le
 abbrev pub AcceptedExactly : Type 0
 AcceptedExactly =
     (w room : ℕ) (c : Class) (a : Action) (t : Table)
-    → (accepts (judge w room c a (some t)).reply ≡ true) ↔ (Above c t.class × NoneHolds (refusal_rows w room c a t))
+    → (accepts (judge w room c a (Some t)).reply ≡ true) ↔ (Above c t.class × NoneHolds (refusal_rows w room c a t))
 
 -- that is, in the affirmative
 abbrev pub AcceptedGood : Type 0
 AcceptedGood =
     (w room : ℕ) (c : Class) (a : Action) (t : Table)
-    → (accepts (judge w room c a (some t)).reply ≡ true) ↔ (Above c t.class × Good w room c t a)
+    → (accepts (judge w room c a (Some t)).reply ≡ true) ↔ (Above c t.class × Good w room c t a)
 
 -- values of ours are equal as a condition asks just where they are one value
 abbrev pub SameValue : Type 0
@@ -98,16 +98,16 @@ SameValue = (w : ℕ) (a b : Value) → value_sound w a ≡ true → value_sound
 -- ---- what an accepted command does
 -- accepted on the stored table t, whose class the client dominates
 abbrev pub Accepts : ℕ → ℕ → Class → Action → Table → Type 0
-Accepts w room c a t = accepts (judge w room c a (some (open_table c t))).reply ≡ true
+Accepts w room c a t = accepts (judge w room c a (Some (open_table c t))).reply ≡ true
 
 -- it is such a table that stands at the place named, and afterwards the changed one stands there
 abbrev pub ChangesThere : Type 0
 ChangesThere =
     (w room : ℕ) (s : Store) (k : Command) → accepts (judgement w room s k).reply ≡ true
     → (t : Table)
-    × (table_at k.directory k.table s ≡ some t)
+    × (table_at k.directory k.table s ≡ Some t)
     × Accepts w room k.clearance k.action t
-    × (table_at k.directory k.table (changed w room s k) ≡ some (change_table k.clearance k.action t))
+    × (table_at k.directory k.table (changed w room s k) ≡ Some (change_table k.clearance k.action t))
 
 abbrev pub ChangesNowhereElse : Type 0
 ChangesNowhereElse =
@@ -128,8 +128,8 @@ InsertDoes =
     → (r : Row)
     × ((change_table c (insert gs) t).rows ≡ t.rows ++ (r ∷ []))
     × (r.exist ≡ c)
-    × ((j : ℕ) → Visible (open_table c t) j → Some (λ (g : Given). (g.column ≡ j) × (at j r.fields ≡ some g.field)) gs)
-    × ((j : ℕ) (k : Column) → at j t.columns ≡ some k → ¬ Visible (open_table c t) j → at j r.fields ≡ some k.default)
+    × ((j : ℕ) → Visible (open_table c t) j → SomeOf (λ (g : Given). (g.column ≡ j) × (at j r.fields ≡ Some g.field)) gs)
+    × ((j : ℕ) (k : Column) → at j t.columns ≡ Some k → ¬ Visible (open_table c t) j → at j r.fields ≡ Some k.default)
 
 -- delete: just the rows named go
 abbrev pub DeleteDoes : Type 0
@@ -148,7 +148,7 @@ abbrev pub SelectDoes : Type 0
 SelectDoes =
     (c : Class) (q : Option Condition) (t : Table)
     → (change_table c (select q) t ≡ t)
-    × ((i : ℕ) (r : Row) → Some (λ (x : Shown). (x.number ≡ i) × (x.row ≡ r)) (answer q t.rows) ↔ ((nth i t.rows ≡ some r) × Met q r))
+    × ((i : ℕ) (r : Row) → SomeOf (λ (x : Shown). (x.number ≡ i) × (x.row ≡ r)) (answer q t.rows) ↔ ((nth i t.rows ≡ Some r) × Met q r))
 
 -- ---- demand 3
 -- Run the whole tape on the store; apart from that make C's view, and run on it only the lines whose readable clearance C dominates, each
@@ -176,8 +176,8 @@ WritingExactly = (w : ℕ) (h : Heading) (s : Store) (room : Bytes) (r : Reply) 
 -- a sheet that is taken under SHEET hides nothing
 abbrev pub NothingHidden : Type 0
 NothingHidden =
-    (w : ℕ) (bs : Bytes) (s : Store) → reading w bs ≡ taken SHEET s → (d n : ℕ) (t : Table) → table_at d n s ≡ some t
-    → Every (λ (r : Row). (j : ℕ) (f : Field) → at j r.fields ≡ some f → ¬ (f.value ≡ Hidden)) t.rows
+    (w : ℕ) (bs : Bytes) (s : Store) → reading w bs ≡ taken SHEET s → (d n : ℕ) (t : Table) → table_at d n s ≡ Some t
+    → Every (λ (r : Row). (j : ℕ) (f : Field) → at j r.fields ≡ Some f → ¬ (f.value ≡ Hidden)) t.rows
 
 -- a store that is written into a room is read back from it
 abbrev pub WrittenReads : Type 0

@@ -1,7 +1,7 @@
 -- Commands, and the lines that hold them. 01, "Sheets and tapes", the paragraph "A command".
 -- Assumes nothing.
 use Rattle.std.specs.Prelude.{Bool, cond, not, List, [], ◌∷◌, ℕ, leb, length}
-use Rattle.std.proofs.Math.Option.{Option, none, some}
+use Rattle.std.specs.Prelude.{Option, None, Some}
 use Prim.Native.Char.{code}
 use Rattle.model.specs.declared.Class.{Class}
 use Rattle.model.specs.declared.Value.{Value}
@@ -53,9 +53,9 @@ pub data Line : Type 0 where
 
 -- whose line it is
 unfoldable pub client : Line → Option Class
-client nobodys = none
-client (unformed c) = some c
-client (command k) = some k.clearance
+client nobodys = None
+client (unformed c) = Some c
+client (command k) = Some k.clearance
 
 -- ---- reading
 pub data Verb : Type 0 where
@@ -71,53 +71,53 @@ module _ (w : ℕ) where
 
   -- column, class, value
   unfoldable pub read_givens : List Bytes → Option (List Given)
-  read_givens [] = some []
-  read_givens (c ∷ []) = none
-  read_givens (c ∷ k ∷ []) = none
+  read_givens [] = Some []
+  read_givens (c ∷ []) = None
+  read_givens (c ∷ k ∷ []) = None
   read_givens (c ∷ k ∷ v ∷ l) = do
     n ← read_dec 7 c
     x ← read_class w k
     y ← read_plain v
     gs ← read_givens l
-    some (record { column = n; field = record { class = x; value = y } } ∷ gs)
+    Some (record { column = n; field = record { class = x; value = y } } ∷ gs)
 
   -- row numbers
   unfoldable pub read_rows : List Bytes → Option (List ℕ)
-  read_rows [] = some []
+  read_rows [] = Some []
   read_rows (r ∷ l) = do
     n ← read_dec 31 r
     ns ← read_rows l
-    some (n ∷ ns)
+    Some (n ∷ ns)
 
   -- a new class or "=", a new value or "=", not both "="
   unfoldable pub read_new : Bytes → Bytes → Option New
   read_new k v =
       cond (is_text k (bytes "="))
       (map_o new_value (read_plain v))
-      (read_class w k >>= λ (x : Class). cond (is_text v (bytes "=")) (some (new_class x)) (map_o (λ (y : Value). new_field (record { class = x; value = y })) (read_plain v)))
+      (read_class w k >>= λ (x : Class). cond (is_text v (bytes "=")) (Some (new_class x)) (map_o (λ (y : Value). new_field (record { class = x; value = y })) (read_plain v)))
 
   -- row, column, class, value
   unfoldable pub read_changes : List Bytes → Option (List Change)
-  read_changes [] = some []
-  read_changes (r ∷ []) = none
-  read_changes (r ∷ c ∷ []) = none
-  read_changes (r ∷ c ∷ k ∷ []) = none
+  read_changes [] = Some []
+  read_changes (r ∷ []) = None
+  read_changes (r ∷ c ∷ []) = None
+  read_changes (r ∷ c ∷ k ∷ []) = None
   read_changes (r ∷ c ∷ k ∷ v ∷ l) = do
     i ← read_dec 31 r
     j ← read_dec 7 c
     n ← read_new k v
     es ← read_changes l
-    some (record { row = i; column = j; new = n } ∷ es)
+    Some (record { row = i; column = j; new = n } ∷ es)
 
   -- nothing, or column and value
   unfoldable pub read_condition : List Bytes → Option (Option Condition)
-  read_condition [] = some none
-  read_condition (c ∷ []) = none
+  read_condition [] = Some None
+  read_condition (c ∷ []) = None
   read_condition (c ∷ v ∷ []) = do
     n ← read_dec 7 c
     x ← read_plain v
-    some (some (record { column = n; value = x }))
-  read_condition (c ∷ v ∷ y ∷ l) = none
+    Some (Some (record { column = n; value = x }))
+  read_condition (c ∷ v ∷ y ∷ l) = None
 
   -- not more than n entries
   abbrev pub at_most : {A : Type 0} → ℕ → List A → Option (List A)
@@ -131,23 +131,23 @@ module _ (w : ℕ) where
 
   -- verb, directory, table, and what the verb takes
   unfoldable pub read_command : Class → List Bytes → Option Command
-  read_command k [] = none
-  read_command k (v ∷ []) = none
-  read_command k (v ∷ d ∷ []) = none
+  read_command k [] = None
+  read_command k (v ∷ []) = None
+  read_command k (v ∷ d ∷ []) = None
   read_command k (v ∷ d ∷ t ∷ l) = do
     x ← read_letter verbs v
     i ← read_dec 3 d
     j ← read_dec 1 t
     a ← read_action x l
-    some (record { clearance = k; directory = i; table = j; action = a })
+    Some (record { clearance = k; directory = i; table = j; action = a })
 
   abbrev pub formed : Class → Option Command → Line
-  formed k none = unformed k
-  formed k (some x) = command x
+  formed k None = unformed k
+  formed k (Some x) = command x
 
   abbrev pub opened : Option Class → (Class → Line) → Line
-  opened none f = nobodys
-  opened (some k) f = f k
+  opened None f = nobodys
+  opened (Some k) f = f k
 
   -- the class before anything else; a line longer than 2,048 bytes is not of the form
   unfoldable pub read_parts : Bool → List Bytes → Line

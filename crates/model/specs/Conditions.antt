@@ -1,7 +1,7 @@
 -- The rows of the reply table once more, as propositions: what 01 says of each reply, without the tests of Checks. Claims ties the two.
 -- Assumes nothing.
 use Rattle.std.specs.Prelude.{◌≡◌, ◌⊎◌, true, List, [], ◌++◌, ◌∷◌, ◌%◌, ◌/◌, ◌<◌, ◌^◌, ◌≤◌, suc, zero, ℕ, Float, length}
-use Rattle.std.proofs.Math.Option.{Option, none, some}
+use Rattle.std.specs.Prelude.{Option, None, Some}
 use Rattle.model.specs.declared.Class.{Class}
 use Rattle.model.specs.declared.Field.{Field}
 use Rattle.model.specs.declared.Kind.{Kind}
@@ -22,9 +22,9 @@ use Rattle.model.specs.Answers.{answer, answer_text}
 -- ---- lists and places
 module _ {A : Type 0} where
   -- an element has P
-  abbrev pub Some : (A → Type 0) → List A → Type 0
-  Some P [] = ⊥
-  Some P (a ∷ l) = P a ⊎ Some P l
+  abbrev pub SomeOf : (A → Type 0) → List A → Type 0
+  SomeOf P [] = ⊥
+  SomeOf P (a ∷ l) = P a ⊎ SomeOf P l
 
   abbrev pub Every : (A → Type 0) → List A → Type 0
   Every P [] = Unit {0}
@@ -33,7 +33,7 @@ module _ {A : Type 0} where
   -- two elements at different places stand in R
   abbrev pub Twice : (A → A → Type 0) → List A → Type 0
   Twice R [] = ⊥
-  Twice R (a ∷ l) = Some (R a) l ⊎ Twice R l
+  Twice R (a ∷ l) = SomeOf (R a) l ⊎ Twice R l
 
   -- n elements, at least, have P
   abbrev pub AtLeast : ℕ → (A → Type 0) → List A → Type 0
@@ -43,7 +43,7 @@ module _ {A : Type 0} where
 
   -- something is there, and it has P
   abbrev pub There : (A → Type 0) → Option A → Type 0
-  There P o = (a : A) × (o ≡ some a) × P a
+  There P o = (a : A) × (o ≡ Some a) × P a
 
 -- ---- classes and values
 -- the class has the mark number i, from 0
@@ -95,24 +95,24 @@ module _ (w room : ℕ) (c : Class) where
   abbrev pub refusal_rows : Action → Table → Rows
   refusal_rows (insert gs) t =
       (NamedTwice, Twice (λ (g h : Given). g.column ≡ h.column) gs)
-      ∷ (NoColumn, Some (λ (g : Given). ¬ Visible t g.column) gs)
-      ∷ (NotNamed, (j : ℕ) × Visible t j × (¬ Some (λ (g : Given). g.column ≡ j) gs))
-      ∷ (Misfit, Some (λ (g : Given). TakesNot t g.column g.field.value) gs)
-      ∷ (NoBerth, ¬ ((i : ℕ) × (at i t.berths ≡ some c)))
+      ∷ (NoColumn, SomeOf (λ (g : Given). ¬ Visible t g.column) gs)
+      ∷ (NotNamed, (j : ℕ) × Visible t j × (¬ SomeOf (λ (g : Given). g.column ≡ j) gs))
+      ∷ (Misfit, SomeOf (λ (g : Given). TakesNot t g.column g.field.value) gs)
+      ∷ (NoBerth, ¬ ((i : ℕ) × (at i t.berths ≡ Some c)))
       ∷ (BerthFull, AtLeast 8 (λ (r : Row). r.exist ≡ c) t.rows)
       ∷ []
   refusal_rows (delete is) t =
       (NamedTwice, Twice (λ (i j : ℕ). i ≡ j) is)
-      ∷ (NoRow, Some (λ (i : ℕ). length t.rows ≤ i) is)
-      ∷ (NotYours, Some (λ (i : ℕ). There (λ (r : Row). ¬ (r.exist ≡ c)) (nth i t.rows)) is)
+      ∷ (NoRow, SomeOf (λ (i : ℕ). length t.rows ≤ i) is)
+      ∷ (NotYours, SomeOf (λ (i : ℕ). There (λ (r : Row). ¬ (r.exist ≡ c)) (nth i t.rows)) is)
       ∷ []
   refusal_rows (update es) t =
       (NamedTwice, Twice (λ (e f : Change). (e.row ≡ f.row) × (e.column ≡ f.column)) es)
-      ∷ (NoColumn, Some (λ (e : Change). ¬ Visible t e.column) es)
-      ∷ (NoRow, Some (λ (e : Change). length t.rows ≤ e.row) es)
-      ∷ (Misfit, Some (λ (e : Change). (v : Value) × Brings e.new v × TakesNot t e.column v) es)
-      ∷ (NotYours, Some (λ (e : Change). There (λ (r : Row). ¬ Allowed c e r) (nth e.row t.rows)) es)
-      ∷ (Uncovers, Some (λ (e : Change). There (Uncovering e) (nth e.row t.rows)) es)
+      ∷ (NoColumn, SomeOf (λ (e : Change). ¬ Visible t e.column) es)
+      ∷ (NoRow, SomeOf (λ (e : Change). length t.rows ≤ e.row) es)
+      ∷ (Misfit, SomeOf (λ (e : Change). (v : Value) × Brings e.new v × TakesNot t e.column v) es)
+      ∷ (NotYours, SomeOf (λ (e : Change). There (λ (r : Row). ¬ Allowed c e r) (nth e.row t.rows)) es)
+      ∷ (Uncovers, SomeOf (λ (e : Change). There (Uncovering e) (nth e.row t.rows)) es)
       ∷ []
   refusal_rows (select q) t =
       (NoColumn, There (λ (x : Condition). ¬ Visible t x.column) q)
@@ -126,12 +126,12 @@ module _ (w room : ℕ) (c : Class) where
   hidden_rows (delete is) t = []
   hidden_rows (update es) t = []
   hidden_rows (select q) t =
-      (LeftOut, There (λ (x : Condition). Some (λ (r : Row). There (λ (f : Field). f.value ≡ Hidden) (at x.column r.fields)) t.rows) q) ∷ []
+      (LeftOut, There (λ (x : Condition). SomeOf (λ (r : Row). There (λ (f : Field). f.value ≡ Hidden) (at x.column r.fields)) t.rows) q) ∷ []
 
   -- by the table that the client's view has at the place named
   abbrev pub table_rows : Action → Option Table → Rows
-  table_rows a none = (NoTable, Unit {0}) ∷ []
-  table_rows a (some t) = (TableAbove, ¬ Above c t.class) ∷ (refusal_rows a t ++ (hidden_rows a t ++ ((Done, Unit {0}) ∷ [])))
+  table_rows a None = (NoTable, Unit {0}) ∷ []
+  table_rows a (Some t) = (TableAbove, ¬ Above c t.class) ∷ (refusal_rows a t ++ (hidden_rows a t ++ ((Done, Unit {0}) ∷ [])))
 
 module _ (w room : ℕ) (s : Store) where
   abbrev pub command_rows : Command → Rows
@@ -176,9 +176,9 @@ module _ (w room : ℕ) (c : Class) (t : Table) where
   pub record GoodInsert (gs : List Given) : Type 0 where
     pub once : ¬ Twice (λ (g h : Given). g.column ≡ h.column) gs
     pub seen : Every (λ (g : Given). Visible t g.column) gs
-    pub whole : (j : ℕ) → Visible t j → Some (λ (g : Given). g.column ≡ j) gs
+    pub whole : (j : ℕ) → Visible t j → SomeOf (λ (g : Given). g.column ≡ j) gs
     pub fit : Every (λ (g : Given). Takes t g.column g.field.value) gs
-    pub berth : (i : ℕ) × (at i t.berths ≡ some c)
+    pub berth : (i : ℕ) × (at i t.berths ≡ Some c)
     pub free : ¬ AtLeast 8 (λ (r : Row). r.exist ≡ c) t.rows
 
   pub record GoodDelete (is : List ℕ) : Type 0 where
@@ -190,11 +190,11 @@ module _ (w room : ℕ) (c : Class) (t : Table) where
     pub seen : Every (λ (e : Change). Visible t e.column) es
     pub fit : Every (λ (e : Change). (v : Value) → Brings e.new v → Takes t e.column v) es
     pub allowed : Every (λ (e : Change). There (Allowed c e) (nth e.row t.rows)) es
-    pub covered : Every (λ (e : Change). (r : Row) → nth e.row t.rows ≡ some r → ¬ Uncovering e r) es
+    pub covered : Every (λ (e : Change). (r : Row) → nth e.row t.rows ≡ Some r → ¬ Uncovering e r) es
 
   pub record GoodSelect (q : Option Condition) : Type 0 where
-    pub seen : (x : Condition) → q ≡ some x → Visible t x.column
-    pub fit : (x : Condition) → q ≡ some x → Takes t x.column x.value
+    pub seen : (x : Condition) → q ≡ Some x → Visible t x.column
+    pub fit : (x : Condition) → q ≡ Some x → Takes t x.column x.value
     pub roomy : length (answer_text w (answer q t.rows)) ≤ room
 
   abbrev pub Good : Action → Type 0

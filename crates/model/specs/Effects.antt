@@ -3,7 +3,7 @@
 -- Each change is made only where the client may make it; for accepted commands that test is idle (Claims).
 -- Assumes nothing.
 use Rattle.std.specs.Prelude.{Bool, true, false, cond, ◌&&◌, ◌||◌, not, List, [], ◌∷◌, ◌++◌, ℕ, zero, suc, eqb}
-use Rattle.std.proofs.Math.Option.{Option, none, some}
+use Rattle.std.specs.Prelude.{Option, None, Some}
 use Rattle.model.specs.declared.Class.{Class}
 use Rattle.model.specs.declared.Field.{Field}
 use Rattle.model.specs.Places.{Places, when, or_else, map_o, alter, push, has, tick}
@@ -15,7 +15,7 @@ use Rattle.model.specs.Checks.{own}
 -- ---- the walk: rows that the client sees, numbered from k on, are kept, changed or removed by f; the others stay
 unfoldable pub touch : Bool → (ℕ → Row → Option Row) → ℕ → Row → Option Row
 touch true f k r = f k r
-touch false f k r = some r
+touch false f k r = Some r
 
 unfoldable pub edit : Class → (ℕ → Row → Option Row) → ℕ → List Row → List Row
 edit c f k [] = []
@@ -23,8 +23,8 @@ edit c f k (r ∷ rs) = push (touch (dominates c r.exist) f k r) (edit c f (tick
 
 -- ---- insert: the field given for a column, or else the column's default
 unfoldable pub given : List Given → ℕ → Option Field
-given [] j = none
-given (g ∷ gs) j = cond (eqb g.column j) (some g.field) (given gs j)
+given [] j = None
+given (g ∷ gs) j = cond (eqb g.column j) (Some g.field) (given gs j)
 
 -- g: what is given at each number, from this one on
 unfoldable pub fill : (ℕ → Option Field) → Places Column → Places Field
@@ -41,8 +41,8 @@ strike c is k r = when (not (has k is && own c r)) r
 -- ---- update: the named fields change
 -- the entry for a row and a column
 unfoldable pub entry_for : List Change → ℕ → ℕ → Option New
-entry_for [] i j = none
-entry_for (e ∷ es) i j = cond (eqb e.row i && eqb e.column j) (some e.new) (entry_for es i j)
+entry_for [] i j = None
+entry_for (e ∷ es) i j = cond (eqb e.row i && eqb e.column j) (Some e.new) (entry_for es i j)
 
 unfoldable pub put : New → Field → Field
 put (new_class k) f = record { class = k; value = f.value }
@@ -56,8 +56,8 @@ lets c mine (new_value v) f = mine || dominates f.class c
 lets c mine (new_field g) f = mine
 
 unfoldable pub renew : Class → Bool → Option New → Field → Field
-renew c mine none f = f
-renew c mine (some n) f = cond (lets c mine n f) (put n f) f
+renew c mine None f = f
+renew c mine (Some n) f = cond (lets c mine n f) (put n f) f
 
 -- g: the entry at each column number, from this one on
 unfoldable pub renew_all : Class → Bool → (ℕ → Option New) → Places Field → Places Field
@@ -68,7 +68,7 @@ unfoldable pub amend_row : Class → List Change → ℕ → Row → Row
 amend_row c es k r = record { exist = r.exist; fields = renew_all c (own c r) (entry_for es k) r.fields }
 
 unfoldable pub amend : Class → List Change → ℕ → Row → Option Row
-amend c es k r = some (amend_row c es k r)
+amend c es k r = Some (amend_row c es k r)
 
 -- ---- the rows of the table, by the verb
 unfoldable pub new_rows : Class → Action → Places Column → List Row → List Row

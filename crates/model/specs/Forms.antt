@@ -1,7 +1,7 @@
 -- A form says how a thing is written and how it is read: of one field of a line, or of all that are left of it.
 -- Assumes nothing.
 use Rattle.std.specs.Prelude.{cond, List, [], ◌∷◌, ℕ, eqb}
-use Rattle.std.proofs.Math.Option.{Option, none, some}
+use Rattle.std.specs.Prelude.{Option, None, Some}
 use Rattle.model.specs.Places.{and_then}
 use Rattle.model.specs.Numbers.{Bytes}
 
@@ -22,11 +22,11 @@ pub record Fields (A : Type 0) : Type 0 where
 -- one field, then others
 module _ {A B : Type 0} (f : Form A) (g : Fields B) where
   abbrev pub parse_then : List Bytes → Option (A × B)
-  parse_then [] = none
+  parse_then [] = None
   parse_then (s ∷ l) = do
     a ← f.read s
     b ← g.parse l
-    some (a, b)
+    Some (a, b)
 
 infixr 20 ◌then◌
 abbrev pub ◌then◌ : {A B : Type 0} → Form A → Fields B → Fields (A × B)
@@ -35,14 +35,14 @@ f then g = record { write = λ (x : _ × _). f.text x.0 ∷ g.write x.1; parse =
 -- one field, the last
 module _ {A : Type 0} (f : Form A) where
   abbrev pub parse_only : List Bytes → Option A
-  parse_only [] = none
+  parse_only [] = None
   parse_only (s ∷ []) = f.read s
-  parse_only (s ∷ t ∷ l) = none
+  parse_only (s ∷ t ∷ l) = None
 
   abbrev pub only : Fields A
   only = record { write = λ (a : A). f.text a ∷ []; parse = parse_only }
 
 -- what a byte stands for, by a list
 abbrev pub pick : {A : Type 0} → List (ℕ × A) → ℕ → Option A
-pick [] b = none
-pick (x ∷ l) b = cond (eqb b x.0) (some x.1) (pick l b)
+pick [] b = None
+pick (x ∷ l) b = cond (eqb b x.0) (Some x.1) (pick l b)

@@ -1,7 +1,7 @@
 -- Lines and fields: the stretches between line feeds, and between tabs. 01, "Sheets and tapes", first sentence.
 -- Assumes nothing.
 use Rattle.std.specs.Prelude.{Bool, true, false, ◌&&◌, List, [], ◌∷◌, ◌++◌, ℕ, eqb}
-use Rattle.std.proofs.Math.Option.{Option, none, some}
+use Rattle.std.specs.Prelude.{Option, None, Some}
 use Rattle.model.specs.Places.{map_o}
 use Rattle.model.specs.Numbers.{Bytes}
 
@@ -41,11 +41,11 @@ unlines ls = flat ended ls
 
 -- the lines of a text; nothing stands behind the last line feed
 abbrev pub nothing : Bytes → Option (List Bytes)
-nothing [] = some []
-nothing (b ∷ l) = none
+nothing [] = Some []
+nothing (b ∷ l) = None
 
 unfoldable pub whole : List Bytes → Option (List Bytes)
-whole [] = none
+whole [] = None
 whole (l ∷ []) = nothing l
 whole (l ∷ m ∷ ls) = map_o (λ (x : List Bytes). l ∷ x) (whole (m ∷ ls))
 

@@ -1,7 +1,7 @@
 -- Numbers as text. 01, "Sheets and tapes": decimal without leading zeros, and hex digits 0-9 A-F.
 -- Assumes nothing.
 use Rattle.std.specs.Prelude.{Bool, true, false, cond, not, List, [], ◌∷◌, ℕ, zero, suc, ◌+◌, ◌-◌, ◌*◌, ◌/◌, ◌%◌, ◌^◌, leb, ltb, eqb, length}
-use Rattle.std.proofs.Math.Option.{Option, none, some}
+use Rattle.std.specs.Prelude.{Option, None, Some}
 use Prim.Native.Char.{code}
 use Prim.Native.String.{String}
 
@@ -20,10 +20,10 @@ between a b e = cond (leb a b) (leb b e) false
 
 -- what a byte is as a decimal digit, and as a hex digit
 abbrev pub dec_digit : ℕ → Option ℕ
-dec_digit b = cond (between 48 b 57) (some (b - 48)) none
+dec_digit b = cond (between 48 b 57) (Some (b - 48)) None
 
 abbrev pub hex_digit : ℕ → Option ℕ
-hex_digit b = cond (between 48 b 57) (some (b - 48)) (cond (between 65 b 70) (some (b - 55)) none)
+hex_digit b = cond (between 48 b 57) (Some (b - 48)) (cond (between 65 b 70) (Some (b - 55)) None)
 
 -- the byte of a digit below 16
 abbrev pub digit_byte : ℕ → ℕ
@@ -31,20 +31,20 @@ digit_byte d = cond (ltb d 10) (48 + d) (55 + d)
 
 -- ---- reading
 abbrev pub on_num {ℓ} : {A : Type ℓ} → Option ℕ → A → (ℕ → A) → A
-on_num (some d) z f = f d
-on_num none z f = z
+on_num (Some d) z f = f d
+on_num None z f = z
 
 -- the number that the bytes give in a base, after those that gave acc
 unfoldable pub num_from : (ℕ → Option ℕ) → ℕ → ℕ → Bytes → Option ℕ
-num_from digit base acc [] = some acc
-num_from digit base acc (b ∷ bs) = on_num (digit b) none (λ d. num_from digit base (acc * base + d) bs)
+num_from digit base acc [] = Some acc
+num_from digit base acc (b ∷ bs) = on_num (digit b) None (λ d. num_from digit base (acc * base + d) bs)
 
 -- exactly n hex digits
 unfoldable pub read_hex : ℕ → Bytes → Option ℕ
-read_hex n s = cond (eqb (length s) n) (num_from hex_digit 16 0 s) none
+read_hex n s = cond (eqb (length s) n) (num_from hex_digit 16 0 s) None
 
 abbrev pub up_to : ℕ → ℕ → Option ℕ
-up_to limit v = cond (leb v limit) (some v) none
+up_to limit v = cond (leb v limit) (Some v) None
 
 -- not empty, and no zero in front of another digit
 unfoldable pub leads_well : Bytes → Bool
@@ -53,11 +53,11 @@ leads_well (b ∷ []) = true
 leads_well (b ∷ a ∷ bs) = not (eqb b 48)
 
 unfoldable pub dec_value : ℕ → Bytes → Option ℕ
-dec_value limit s = on_num (num_from dec_digit 10 0 s) none (up_to limit)
+dec_value limit s = on_num (num_from dec_digit 10 0 s) None (up_to limit)
 
 -- a decimal number, at most the limit
 unfoldable pub read_dec : ℕ → Bytes → Option ℕ
-read_dec limit s = cond (leads_well s) (dec_value limit s) none
+read_dec limit s = cond (leads_well s) (dec_value limit s) None
 
 -- ---- writing
 -- the last k digits of v in a base, the highest first

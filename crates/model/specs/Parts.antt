@@ -1,7 +1,7 @@
 -- The parts of a store. 01, "What the store holds", the table of parts.
 -- Assumes nothing.
 use Rattle.std.specs.Prelude.{List, ℕ}
-use Rattle.std.proofs.Math.Option.{Option}
+use Rattle.std.specs.Prelude.{Option}
 use Rattle.model.specs.declared.Class.{Class}
 use Rattle.model.specs.declared.Kind.{Kind}
 use Rattle.model.specs.declared.Field.{Field}

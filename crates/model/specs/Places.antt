@@ -1,41 +1,38 @@
 -- Numbered places, each empty or filled, and the few functions on lists that the definitions use.
 -- Assumes nothing.
 use Rattle.std.specs.Prelude.{Bool, true, false, ◌&&◌, ◌||◌, List, [], ◌∷◌, ℕ, zero, suc, eqb}
-use Rattle.std.proofs.Math.Option.{Option, none, some}
+use Rattle.std.specs.List.{cons_option, filter_map, list_all, list_any, slice_get}
+use Rattle.std.specs.Option.{is_some, option_and_then, option_map}
+use Rattle.std.specs.Prelude.{Option, None, Some}
 
 -- ---- what may be absent
 module _ {A : Type 0} where
   abbrev pub when : Bool → A → Option A
-  when true a = some a
-  when false a = none
+  when true a = Some a
+  when false a = None
 
   abbrev pub present : Option A → Bool
-  present none = false
-  present (some a) = true
+  present o = is_some o
 
   -- something is there, and p of it
   abbrev pub sure : (A → Bool) → Option A → Bool
-  sure p none = false
-  sure p (some a) = p a
+  sure p None = false
+  sure p (Some a) = p a
 
   abbrev pub or_else : Option A → A → A
-  or_else none d = d
-  or_else (some a) d = a
+  or_else None d = d
+  or_else (Some a) d = a
 
 abbrev pub and_then : {A B : Type 0} → Option A → (A → Option B) → Option B
-and_then none f = none
-and_then (some a) f = f a
+and_then o f = option_and_then f o
 
 abbrev pub map_o : {A B : Type 0} → (A → B) → Option A → Option B
-map_o f none = none
-map_o f (some a) = some (f a)
+map_o f o = option_map f o
 
 -- ---- lists
 module _ {A : Type 0} where
   abbrev pub nth : ℕ → List A → Option A
-  nth n [] = none
-  nth zero (a ∷ l) = some a
-  nth (suc n) (a ∷ l) = nth n l
+  nth n l = slice_get l n
 
   -- the element at number n is replaced by f of it
   abbrev pub alter : ℕ → (A → A) → List A → List A
@@ -44,12 +41,10 @@ module _ {A : Type 0} where
   alter (suc n) f (a ∷ l) = a ∷ alter n f l
 
   abbrev pub any : (A → Bool) → List A → Bool
-  any p [] = false
-  any p (a ∷ l) = p a || any p l
+  any p l = list_any p l
 
   abbrev pub all : (A → Bool) → List A → Bool
-  all p [] = true
-  all p (a ∷ l) = p a && all p l
+  all p l = list_all p l
 
   -- two elements at different places are alike
   abbrev pub twice : (A → A → Bool) → List A → Bool
@@ -57,13 +52,11 @@ module _ {A : Type 0} where
   twice alike (a ∷ l) = any (alike a) l || twice alike l
 
   abbrev pub push : Option A → List A → List A
-  push none l = l
-  push (some a) l = a ∷ l
+  push o l = cons_option o l
 
 -- the elements that f keeps, as it leaves them
 abbrev pub gather : {A B : Type 0} → (A → Option B) → List A → List B
-gather f [] = []
-gather f (a ∷ l) = push (f a) (gather f l)
+gather f l = filter_map f l
 
 abbrev pub has : ℕ → List ℕ → Bool
 has n l = any (eqb n) l
@@ -85,31 +78,31 @@ Places A = List (Option A)
 module _ {A : Type 0} where
   -- the part at a number, if it is there
   abbrev pub at : ℕ → Places A → Option A
-  at n [] = none
+  at n [] = None
   at zero (o ∷ l) = o
   at (suc n) (o ∷ l) = at n l
 
   -- each part that is there passes
   abbrev pub all_in : (A → Bool) → Places A → Bool
   all_in p [] = true
-  all_in p (none ∷ l) = all_in p l
-  all_in p (some a ∷ l) = p a && all_in p l
+  all_in p (None ∷ l) = all_in p l
+  all_in p (Some a ∷ l) = p a && all_in p l
 
   -- n places, all empty
   abbrev pub nones : ℕ → Places A
   nones zero = []
-  nones (suc n) = none ∷ nones n
+  nones (suc n) = None ∷ nones n
 
   -- all places emptied
   abbrev pub emptied : Places A → Places A
   emptied [] = []
-  emptied (o ∷ l) = none ∷ emptied l
+  emptied (o ∷ l) = None ∷ emptied l
 
   -- the parts that are there
   abbrev pub filled : Places A → List A
   filled [] = []
-  filled (none ∷ l) = filled l
-  filled (some a ∷ l) = a ∷ filled l
+  filled (None ∷ l) = filled l
+  filled (Some a ∷ l) = a ∷ filled l
 
 -- each part is replaced by f of it, perhaps by nothing
 abbrev pub on_places : {A B : Type 0} → (A → Option B) → Places A → Places B

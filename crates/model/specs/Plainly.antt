@@ -1,7 +1,7 @@
 -- What accepted commands do, said plainly: without the walk and the tests of Effects. Claims ties the two.
 -- Assumes nothing.
 use Rattle.std.specs.Prelude.{◌≡◌, not, true, List, [], ◌∷◌, suc, zero, ℕ, length, take}
-use Rattle.std.proofs.Math.Option.{Option, none, some}
+use Rattle.std.specs.Prelude.{Option, None, Some}
 use Rattle.model.specs.declared.Class.{Class}
 use Rattle.model.specs.declared.Field.{Field}
 use Rattle.model.specs.declared.Value.TheVariants.{Hidden}
@@ -32,17 +32,17 @@ strike_named is k r = when (not (has k is)) r
 
 -- the fields named change
 unfoldable pub put_named : Option New → Field → Field
-put_named none f = f
-put_named (some n) f = put n f
+put_named None f = f
+put_named (Some n) f = put n f
 
 unfoldable pub put_all : (ℕ → Option New) → Places Field → Places Field
 put_all g [] = []
 put_all g (o ∷ fs) = map_o (put_named (g zero)) o ∷ put_all (λ (j : ℕ). g (suc j)) fs
 
 unfoldable pub amend_named : List Change → ℕ → Row → Option Row
-amend_named es k r = some (record { exist = r.exist; fields = put_all (entry_for es k) r.fields })
+amend_named es k r = Some (record { exist = r.exist; fields = put_all (entry_for es k) r.fields })
 
 -- the row's condition field is not hidden and holds the value asked for
 abbrev pub Met : Option Condition → Row → Type 0
-Met none r = Unit {0}
-Met (some q) r = There (λ (f : Field). (¬ (f.value ≡ Hidden)) × (same_value q.value f.value ≡ true)) (at q.column r.fields)
+Met None r = Unit {0}
+Met (Some q) r = There (λ (f : Field). (¬ (f.value ≡ Hidden)) × (same_value q.value f.value ≡ true)) (at q.column r.fields)

@@ -2,7 +2,7 @@
 -- 01, "Sheets and tapes": the order of parts, and that a part under an absent parent is not of the form.
 -- Assumes nothing.
 use Rattle.std.specs.Prelude.{Bool, true, false, ◌&&◌, List, [], ◌∷◌, ◌++◌, map, ℕ, zero, suc}
-use Rattle.std.proofs.Math.Option.{Option, none, some}
+use Rattle.std.specs.Prelude.{Option, None, Some}
 use Rattle.model.specs.declared.Class.{Class}
 use Rattle.model.specs.declared.Field.{Field}
 use Rattle.model.specs.Places.{Places, map_o, nones, filled}
@@ -33,8 +33,8 @@ module _ {R : Type 0} where
 
 -- of what may be absent
 abbrev pub of_option : {A R : Type 0} → (A → List R) → Option A → List R
-of_option f none = []
-of_option f (some a) = f a
+of_option f None = []
+of_option f (Some a) = f a
 
 -- of each part that is there, with its number
 abbrev pub numbered : {A R : Type 0} → (A → List R) → Places A → List (ℕ × R)
@@ -65,8 +65,8 @@ records s = numbered directory_records s
 -- all places are empty
 abbrev pub vacant : {A : Type 0} → Places A → Bool
 vacant [] = true
-vacant (none ∷ l) = vacant l
-vacant (some a ∷ l) = false
+vacant (None ∷ l) = vacant l
+vacant (Some a ∷ l) = false
 
 abbrev pub no_rows : List Row → Bool
 no_rows [] = true
@@ -75,11 +75,11 @@ no_rows (r ∷ rs) = false
 -- only where the test passes
 abbrev pub provided : {A : Type 0} → Bool → Option A → Option A
 provided true o = o
-provided false o = none
+provided false o = None
 
 -- a record of the part at number n goes to that part, if all later places are empty
 abbrev pub place_at : {A R : Type 0} → (R → Option A → Option (Option A)) → ℕ → R → Places A → Option (Places A)
-place_at f n r [] = none
+place_at f n r [] = None
 place_at f zero r (o ∷ l) = provided (vacant l) (map_o (λ (x : Option _). x ∷ l) (f r o))
 place_at f (suc n) r (o ∷ l) = map_o (λ (x : Places _). o ∷ x) (place_at f n r l)
 
@@ -88,23 +88,23 @@ place_in f x l = place_at f x.0 x.1 l
 
 -- a part that is one record
 abbrev pub fresh : {A : Type 0} → A → Option A → Option (Option A)
-fresh a none = some (some a)
-fresh a (some b) = none
+fresh a None = Some (Some a)
+fresh a (Some b) = None
 
 -- one field for each column that is there, in order, and none left over
 unfoldable pub spread : Places Column → List Field → Option (Places Field)
-spread [] [] = some []
-spread [] (f ∷ fs) = none
-spread (none ∷ ks) fs = map_o (λ (l : Places Field). none ∷ l) (spread ks fs)
-spread (some k ∷ ks) [] = none
-spread (some k ∷ ks) (f ∷ fs) = map_o (λ (l : Places Field). some f ∷ l) (spread ks fs)
+spread [] [] = Some []
+spread [] (f ∷ fs) = None
+spread (None ∷ ks) fs = map_o (λ (l : Places Field). None ∷ l) (spread ks fs)
+spread (Some k ∷ ks) [] = None
+spread (Some k ∷ ks) (f ∷ fs) = map_o (λ (l : Places Field). Some f ∷ l) (spread ks fs)
 
 -- a table with these parts
 abbrev pub table_of : Class → Class → Places Class → Places Class → Places Column → List Row → Table
 table_of k m bs gs cs rs = record { class = k; max = m; berths = bs; groups = gs; columns = cs; rows = rs }
 
 unfoldable pub place_inside : TablePart → Table → Option Table
-place_inside (table k m) t = none
+place_inside (table k m) t = None
 place_inside (berth x) t =
     provided (vacant t.groups && (vacant t.columns && no_rows t.rows))
     (map_o (λ (l : Places Class). table_of t.class t.max l t.groups t.columns t.rows) (place_in fresh x t.berths))
@@ -118,18 +118,18 @@ place_inside (row k fs) t =
     map_o (λ (l : Places Field). table_of t.class t.max t.berths t.groups t.columns (t.rows ++ (record { exist = k; fields = l } ∷ []))) (spread t.columns fs)
 
 unfoldable pub place_table : TablePart → Option Table → Option (Option Table)
-place_table (table k m) none = some (some (table_of k m (nones 4) (nones 4) (nones 8) []))
-place_table (berth x) none = none
-place_table (group x) none = none
-place_table (column x) none = none
-place_table (row k fs) none = none
-place_table p (some t) = map_o some (place_inside p t)
+place_table (table k m) None = Some (Some (table_of k m (nones 4) (nones 4) (nones 8) []))
+place_table (berth x) None = None
+place_table (group x) None = None
+place_table (column x) None = None
+place_table (row k fs) None = None
+place_table p (Some t) = map_o Some (place_inside p t)
 
 unfoldable pub place_part : Part → Option Directory → Option (Option Directory)
-place_part (directory x k) none = some (some (record { exist = x; class = k; tables = nones 2 }))
-place_part (directory x k) (some d) = none
-place_part (inside p) none = none
-place_part (inside p) (some d) = map_o (λ (l : Places Table). some (record { exist = d.exist; class = d.class; tables = l })) (place_in place_table p d.tables)
+place_part (directory x k) None = Some (Some (record { exist = x; class = k; tables = nones 2 }))
+place_part (directory x k) (Some d) = None
+place_part (inside p) None = None
+place_part (inside p) (Some d) = map_o (λ (l : Places Table). Some (record { exist = d.exist; class = d.class; tables = l })) (place_in place_table p d.tables)
 
 unfoldable pub place : Record → Store → Option Store
 place r s = place_in place_part r s

@@ -2,7 +2,7 @@
 -- A row's field may be hidden here, as in a view; `plain` is the test that SHEET adds.
 -- Assumes nothing.
 use Rattle.std.specs.Prelude.{Bool, true, false, ◌&&◌, ◌||◌, not, List, [], ◌∷◌, ℕ, zero, eqb, leb, length}
-use Rattle.std.proofs.Math.Option.{Option, none, some}
+use Rattle.std.specs.Prelude.{Option, None, Some}
 use Rattle.model.specs.declared.Class.{Class}
 use Rattle.model.specs.declared.Kind.{Kind}
 use Rattle.model.specs.declared.Value.{Value}
@@ -17,9 +17,9 @@ unfoldable pub berth_ok : Class → Class → Class → Bool
 berth_ok class max b = dominates b class && dominates max b
 
 unfoldable pub same_berth : Option Class → Option Class → Bool
-same_berth none o = false
-same_berth (some a) none = false
-same_berth (some a) (some b) = same a b
+same_berth None o = false
+same_berth (Some a) None = false
+same_berth (Some a) (Some b) = same a b
 
 -- ---- columns: the group is there and dominates the default's class, and the default is blank or of the kind
 unfoldable pub column_ok : Places Class → Column → Bool
@@ -30,10 +30,10 @@ unfoldable pub value_ok : Kind → Value → Bool
 value_ok k v = fits k v || is_hidden v
 
 unfoldable pub field_ok : Option Column → Option Field → Bool
-field_ok none none = true
-field_ok none (some f) = false
-field_ok (some k) none = false
-field_ok (some k) (some f) = value_ok k.kind f.value
+field_ok None None = true
+field_ok None (Some f) = false
+field_ok (Some k) None = false
+field_ok (Some k) (Some f) = value_ok k.kind f.value
 
 unfoldable pub fields_ok : Places Column → Places Field → Bool
 fields_ok [] [] = true

@@ -2,7 +2,7 @@
 -- order over the whole sheet.
 -- Assumes nothing.
 use Rattle.std.specs.Prelude.{Bool, true, cond, ◌&&◌, List, [], ◌∷◌, ◌++◌, map, ℕ, leb, length}
-use Rattle.std.proofs.Math.Option.{Option, none, some}
+use Rattle.std.specs.Prelude.{Option, None, Some}
 use Prim.Native.Char.{code}
 use Rattle.model.specs.declared.Class.{Class}
 use Rattle.model.specs.declared.Kind.{Kind}
@@ -88,7 +88,7 @@ module _ (w : ℕ) where
   read_by R l = map_o (λ (x : ℕ × (ℕ × (Class × List Field))). (x.0, inside (x.1.0, row x.1.1.0 x.1.1.1))) (line_r.parse l)
 
   unfoldable pub read_record : List Bytes → Option Record
-  read_record [] = none
+  read_record [] = None
   read_record (a ∷ l) = read_letter letters a >>= λ (x : Letter). read_by x l
 
   -- ---- a store as text, and read from the lines of one: line by line, each record placed before the next is read
@@ -99,7 +99,7 @@ module _ (w : ℕ) where
   store_text s = unlines (map record_line (records s))
 
   unfoldable pub read_on : List Bytes → Store → Option Store
-  read_on [] s = some s
+  read_on [] s = Some s
   read_on (l ∷ ls) s = do
     r ← read_record (fields_of l)
     x ← place r s
@@ -117,7 +117,7 @@ heading_text SHEET = bytes "SHEET"
 heading_text VIEW = bytes "VIEW"
 
 unfoldable pub read_heading : Bytes → Option Heading
-read_heading l = cond (is_text l (bytes "SHEET")) (some SHEET) (cond (is_text l (bytes "VIEW")) (some VIEW) none)
+read_heading l = cond (is_text l (bytes "SHEET")) (Some SHEET) (cond (is_text l (bytes "VIEW")) (Some VIEW) None)
 
 -- under SHEET no value is hidden
 unfoldable pub shows : Heading → Store → Bool
@@ -138,11 +138,11 @@ module _ (w : ℕ) where
   may_stand h s = rules w s && shows h s
 
   unfoldable pub read_lines : List Bytes → Option (Heading × Store)
-  read_lines [] = none
+  read_lines [] = None
   read_lines (l ∷ ls) = do
     h ← read_heading l
     s ← read_store w ls
-    some (h, s)
+    Some (h, s)
 
   -- the heading and the store of a sheet that is of the form
   unfoldable pub read_sheet : Bytes → Option (Heading × Store)
@@ -150,8 +150,8 @@ module _ (w : ℕ) where
 
   -- 20 where the form is not kept, then 21
   unfoldable pub judged : Option (Heading × Store) → Reading
-  judged none = refused BadSheet
-  judged (some x) = cond (may_stand x.0 x.1) (taken x.0 x.1) (refused RuleBroken)
+  judged None = refused BadSheet
+  judged (Some x) = cond (may_stand x.0 x.1) (taken x.0 x.1) (refused RuleBroken)
 
   -- 22 before both
   unfoldable pub reading : Bytes → Reading

@@ -2,7 +2,7 @@
 -- `w` is the number of hex digits that write a class's marks.
 -- Assumes nothing.
 use Rattle.std.specs.Prelude.{cond, List, [], ◌∷◌, ℕ, ◌+◌, ◌-◌, ◌%◌}
-use Rattle.std.proofs.Math.Option.{Option, none, some}
+use Rattle.std.specs.Prelude.{Option, None, Some}
 use Prim.Native.Char.{code}
 use Rattle.std.specs.Float.{binary32}
 use Rattle.std.specs.Float.Ieee.{to_bits}
@@ -23,9 +23,9 @@ number limit = record { text = dec_text; read = read_dec limit }
 
 -- ---- kinds: one letter
 unfoldable pub read_letter : {A : Type 0} → List (ℕ × A) → Bytes → Option A
-read_letter l [] = none
+read_letter l [] = None
 read_letter l (b ∷ []) = pick l b
-read_letter l (b ∷ d ∷ bs) = none
+read_letter l (b ∷ d ∷ bs) = None
 
 abbrev pub kinds : List (ℕ × Kind)
 kinds = (code "N", Counts) ∷ (code "F", Rates) ∷ (code "K", Classes) ∷ []
@@ -42,8 +42,8 @@ marks = (code "-", dash) ∷ (code "N", letter_n) ∷ (code "F", letter_f) ∷ (
 
 -- nothing behind the mark
 abbrev pub alone : Value → Bytes → Option Value
-alone v [] = some v
-alone v (b ∷ bs) = none
+alone v [] = Some v
+alone v (b ∷ bs) = None
 
 module _ (w : ℕ) where
   -- the level's digit and w hex digits
@@ -51,8 +51,8 @@ module _ (w : ℕ) where
   class_text k = (48 + k.level % 4) ∷ digits 16 w k.marks
 
   unfoldable pub read_class : Bytes → Option Class
-  read_class [] = none
-  read_class (b ∷ bs) = cond (between 48 b 51) (map_o (λ (m : ℕ). record { level = b - 48; marks = m }) (read_hex w bs)) none
+  read_class [] = None
+  read_class (b ∷ bs) = cond (between 48 b 51) (map_o (λ (m : ℕ). record { level = b - 48; marks = m }) (read_hex w bs)) None
 
   abbrev pub class : Form Class
   class = record { text = class_text; read = read_class }
@@ -76,7 +76,7 @@ module _ (w : ℕ) where
   read_marked query l = alone Hidden l
 
   unfoldable pub read_value : Bytes → Option Value
-  read_value [] = none
+  read_value [] = None
   read_value (b ∷ bs) = pick marks b >>= λ (m : Mark). read_marked m bs
 
   abbrev pub value : Form Value
@@ -88,13 +88,13 @@ module _ (w : ℕ) where
   field_texts (f ∷ fs) = class_text f.class ∷ value_text f.value ∷ field_texts fs
 
   unfoldable pub read_fields : List Bytes → Option (List Field)
-  read_fields [] = some []
-  read_fields (k ∷ []) = none
+  read_fields [] = Some []
+  read_fields (k ∷ []) = None
   read_fields (k ∷ v ∷ l) = do
     c ← read_class k
     x ← read_value v
     fs ← read_fields l
-    some (record { class = c; value = x } ∷ fs)
+    Some (record { class = c; value = x } ∷ fs)
 
   abbrev pub fields : Fields (List Field)
   fields = record { write = field_texts; parse = read_fields }

@@ -1,7 +1,7 @@
 -- What a command is answered, and the store after it. 01, "Commands" and "Reply numbers".
 -- Assumes nothing.
 use Rattle.std.specs.Prelude.{cond, List, [], ℕ, length}
-use Rattle.std.proofs.Math.Option.{Option, none, some}
+use Rattle.std.specs.Prelude.{Option, None, Some}
 use Rattle.model.specs.declared.Class.{Class}
 use Rattle.model.specs.declared.Reply.{Reply}
 use Rattle.model.specs.declared.Reply.TheVariants.{Done, LeftOut, BadLine, NoTable, RuleBroken}
@@ -41,14 +41,14 @@ accept (update es) t = says Done
 accept (select q) t = record { reply = cond (any (unknown q) t.rows) LeftOut Done; shown = answer q t.rows }
 
 unfoldable pub decided : Option Reply → Verdict → Verdict
-decided none v = v
-decided (some r) v = says r
+decided None v = v
+decided (Some r) v = says r
 
 module _ (w : ℕ) (room : ℕ) where
   -- on the table that the client's view has at the place named; 3 where it has none
   unfoldable pub judge : Class → Action → Option Table → Verdict
-  judge c a none = says NoTable
-  judge c a (some t) = decided (first_of (table_checks w room c a t)) (accept a t)
+  judge c a None = says NoTable
+  judge c a (Some t) = decided (first_of (table_checks w room c a t)) (accept a t)
 
   unfoldable pub judgement : Store → Command → Verdict
   judgement s k = judge k.clearance k.action (table_at k.directory k.table (view k.clearance s))

@@ -1,7 +1,7 @@
 -- The view at a clearance. 01, the section of that name, sentence by sentence.
 -- Assumes nothing.
 use Rattle.std.specs.Prelude.{cond, [], ◌∷◌}
-use Rattle.std.proofs.Math.Option.{Option, none, some}
+use Rattle.std.specs.Prelude.{Option, None, Some}
 use Rattle.model.specs.declared.Class.{Class}
 use Rattle.model.specs.declared.Field.{Field}
 use Rattle.model.specs.Places.{Places, when, present, map_o, at, on_places, gather, emptied}
@@ -26,8 +26,8 @@ module _ (c : Class) where
 
   -- rows keep only the fields of kept columns, each hidden where its class is not dominated
   unfoldable pub view_field : Option Column → Option Field → Option Field
-  view_field none f = none
-  view_field (some k) f = map_o (hide c) f
+  view_field None f = None
+  view_field (Some k) f = map_o (hide c) f
 
   unfoldable pub view_fields : Places Column → Places Field → Places Field
   view_fields [] fs = []
@@ -70,7 +70,7 @@ module _ (c : Class) where
 
   -- the tables of a kept directory are kept if its class is dominated too; otherwise none are
   unfoldable pub keep_table : Table → Option Table
-  keep_table t = some (view_table t)
+  keep_table t = Some (view_table t)
 
   unfoldable pub view_tables : Class → Places Table → Places Table
   view_tables k tables = cond (dominates c k) (on_places keep_table tables) (emptied tables)

@@ -1,4 +1,3 @@
 -- Laws of records that are read from lines.
 pub mod RowLaws
-pub mod FewLaws
 pub mod WideLaws

@@ -1,25 +1,26 @@
--- The fields of a row, a class and a value after another. Of the line s, those from the place `at` on are left.
+-- The fields of a row, a class and a value after another. Of the line, l is left.
 -- Assumes nothing.
 use mathlib.Core.Path.{◌∙◌, ◌≡◌, ap, refl, sym}
 use mathlib.Core.List.{List, [], ◌++◌, ◌∷◌, append_assoc, append-nil}
-use mathlib.Core.Option.{Option, none, some}
+use Rattle.std.proofs.Common.{inl, inr}
+use Rattle.std.specs.Prelude.{◌⊎◌, Option, None, Some, slice_set}
 use Prim.Native.Nat.{◌+◌, ◌<◌, ◌≤◌, ℕ}
 use native.Mathlib.Numerals.{add-one}
 use native.Mathlib.Omega.{arith}
-use lib.ListN.{length, length-append, set, take}
+use lib.ListN.{length, length-append, length-set, set, take}
 use lib.Seq.{length-take-le, take-suc-set}
+use Rattle.std.proofs.lemmas.List.{take_all}
 use borrow.Author.Tests.{le-leb, lt-leb}
 use Rattle.model.specs.declared.Class.{Class}
 use Rattle.model.specs.declared.Field.{Field}
 use Rattle.model.specs.declared.Value.{Value}
 use Rattle.model.specs.Numbers.{Bytes}
-use Rattle.model.specs.Places.{and_then, map_o}
+use Rattle.model.specs.Places.{and_then, map_o, when}
 use Rattle.model.specs.Texts.{class, read_class, read_fields, read_value, value}
-use Rattle.model.proofs.OptionLaws.{map-twice}
-use Rattle.text.specs.Fields.{behind, field_at, fields_at}
-use Rattle.text.proofs.FieldLaws.{fields-end, fields-more}
-use Rattle.steps.specs.Steps.{Step, both_by, next_by}
-use Rattle.record.specs.Records.{eight}
+use Rattle.model.proofs.OptionLaws.{map-twice, nothing_is}
+use Rattle.steps.specs.Steps.{Step, Takes, both_by, left, next_by, none_left, of_field}
+use Rattle.steps.specs.declared.Reader.{Reader}
+use Rattle.record.specs.Records.{eight, leading}
 
 -- a field that was read, with the others read on
 abbrev onwards : (Class × Value) × List Bytes → Option (List Field)
@@ -30,89 +31,129 @@ some_by : (x : Bytes) (l : List Bytes) → read_fields 8 (x ∷ l) ≡ and_then 
 unfolding read_fields
 some_by x [] = go (read_class 8 x)
   where
-    go : (o : Option Class) → none ≡ and_then (and_then (map_o (λ (k : Class). (k, [])) o) (next_by (value 8))) onwards
-    go none = refl
-    go (some k) = refl
+    go : (o : Option Class) → None ≡ and_then (and_then (map_o (λ (k : Class). (k, [])) o) (next_by (value 8))) onwards
+    go None = refl
+    go (Some k) = refl
 some_by x (y ∷ l) = go (read_class 8 x)
   where
-    pair : (f : Field) (q : Option (List Field)) → and_then q (λ (fs : List Field). some (f ∷ fs)) ≡ map_o (λ (fs : List Field). f ∷ fs) q
-    pair f none = refl
-    pair f (some fs) = refl
+    pair : (f : Field) (q : Option (List Field)) → and_then q (λ (fs : List Field). Some (f ∷ fs)) ≡ map_o (λ (fs : List Field). f ∷ fs) q
+    pair f None = refl
+    pair f (Some fs) = refl
 
     behind-class : (k : Class) (q : Option Value)
-        → and_then q (λ (v : Value). and_then (read_fields 8 l) (λ (fs : List Field). some (record { class = k; value = v } ∷ fs)))
+        → and_then q (λ (v : Value). and_then (read_fields 8 l) (λ (fs : List Field). Some (record { class = k; value = v } ∷ fs)))
         ≡ and_then {A = (Class × Value) × List Bytes} (map_o (λ (u : Value × List Bytes). ((k, u.0), u.1)) (map_o (λ (v : Value). (v, l)) q)) onwards
-    behind-class k none = refl
-    behind-class k (some v) = pair (record { class = k; value = v }) (read_fields 8 l)
+    behind-class k None = refl
+    behind-class k (Some v) = pair (record { class = k; value = v }) (read_fields 8 l)
 
     go : (o : Option Class)
-        → and_then o (λ (k : Class). and_then (read_value 8 y) (λ (v : Value). and_then (read_fields 8 l) (λ (fs : List Field). some (record { class = k; value = v } ∷ fs))))
+        → and_then o (λ (k : Class). and_then (read_value 8 y) (λ (v : Value). and_then (read_fields 8 l) (λ (fs : List Field). Some (record { class = k; value = v } ∷ fs))))
         ≡ and_then (and_then (map_o (λ (k : Class). (k, y ∷ l)) o) (next_by (value 8))) onwards
-    go none = refl
-    go (some k) = behind-class k (read_value 8 y)
+    go None = refl
+    go (Some k) = behind-class k (read_value 8 y)
 
-some_at : (s : Bytes) (at : ℕ) → at ≤ length s → read_fields 8 (fields_at 9 s at) ≡ and_then (both_by (class 8) (value 8) (fields_at 9 s at)) onwards
-some_at s at h = rw (fields-more 9 s at (field_at 9 s at) (behind s at (length (field_at 9 s at))) refl refl h) (some_by (field_at 9 s at) (fields_at 9 s (behind s at (length (field_at 9 s at)))))
+-- ---- the places that stand filled first
+leading_none : (a : List (Option Field)) → leading (a ++ (None ∷ [])) ≡ leading a
+leading_none [] = refl
+leading_none (None ∷ a) = refl
+leading_none (Some f ∷ a) = ap (λ (l : List Field). f ∷ l) (leading_none a)
 
--- ---- the loop: X is what all the fields are read as, and n of them stand first in the array fs
-abbrev pub Left : Bytes → Option (List Field) → List Field → ℕ → ℕ → Type 0
-Left s X fs n at = X ≡ map_o (λ (r : List Field). take n fs ++ r) (read_fields 8 (fields_at 9 s at))
+-- where all are filled, one more stands behind them
+leading_more : (a : List (Option Field)) (f : Field) → length (leading a) ≡ length a → leading (a ++ (Some f ∷ [])) ≡ leading a ++ (f ∷ [])
+leading_more [] f h = refl
+leading_more (None ∷ a) f h = absurd (omega arith)
+leading_more (Some g ∷ a) f h = ap (λ (l : List Field). g ∷ l) (leading_more a f (omega arith))
 
--- none yet, whatever the array holds
-pub row_starts : (s : Bytes) (at : ℕ) → Left s (read_fields 8 (fields_at 9 s at)) [] 0 at
-row_starts s at = go (read_fields 8 (fields_at 9 s at))
-  where
-    go : (o : Option (List Field)) → o ≡ map_o (λ (r : List Field). r) o
-    go none = refl
-    go (some r) = refl
+leading_le : (a : List (Option Field)) → length (leading a) ≤ length a
+leading_le [] = omega arith
+leading_le (None ∷ a) = omega arith
+leading_le (Some f ∷ a) = omega (arith, leading_le a)
 
 map_alike : {A B : Type 0} (f g : A → B) → ((a : A) → f a ≡ g a) → (o : Option A) → map_o f o ≡ map_o g o
-map_alike f g h none = refl
-map_alike f g h (some a) = ap some (h a)
+map_alike f g h None = refl
+map_alike f g h (Some a) = ap Some (h a)
 
-module _ (s : Bytes) (X : Option (List Field)) (fs : List Field) (n at : ℕ) (left : Left s X fs n at) where
+-- ---- the loop: X is what all the fields are read as. The first n places hold those that were read, and each of them one, or no more can be read
+pub record Going (X : Option (List Field)) (fs : List (Option Field)) (n : ℕ) (l : List Bytes) : Type 0 where
+  pub room : length fs ≡ 8
+  pub so_far : X ≡ map_o (λ (r : List Field). leading (take n fs) ++ r) (read_fields 8 l)
+  pub each : (length (leading (take n fs)) ≡ n) ⊎ (both_by (class 8) (value 8) l ≡ None)
+
+-- none yet
+pub row_starts : (fs : List (Option Field)) (l : List Bytes) → length fs ≡ 8 → Going (read_fields 8 l) fs 0 l
+row_starts fs l h = record { room = h; so_far = go (read_fields 8 l); each = inl refl }
+  where
+    go : (o : Option (List Field)) → o ≡ map_o (λ (r : List Field). r) o
+    go None = refl
+    go (Some r) = refl
+
+module _ (X : Option (List Field)) (fs : List (Option Field)) (n : ℕ) where
   abbrev added : List Field → List Field
-  added r = take n fs ++ r
+  added r = leading (take n fs) ++ r
 
-  stepped : (o : Step (Class × Value)) → at ≤ length s → both_by (class 8) (value 8) (fields_at 9 s at) ≡ o → X ≡ map_o added (and_then o onwards)
-  stepped o k e = left ∙ ap (map_o added) (some_at s at k ∙ ap (λ (o : Step (Class × Value)). and_then o onwards) e)
+  -- one more place: o is what stands in it, and m what is left then
+  place-none : n < length fs → leading (take (n + 1) (set fs n None)) ≡ leading (take n fs)
+  place-none h = rw (add-one, take-suc-set fs n None h) (leading_none (take n fs))
 
-  -- one more
-  pub row_goes : (f : Field) (next : ℕ) → n < length fs → at ≤ length s → both_by (class 8) (value 8) (fields_at 9 s at) ≡ some ((f.class, f.value), fields_at 9 s next)
-      → Left s X (set fs n f) (n + 1) next
-  row_goes f next h k e =
-      stepped (some ((f.class, f.value), fields_at 9 s next)) k e
-      ∙ map-twice added (λ (r : List Field). f ∷ r) (read_fields 8 (fields_at 9 s next))
-      ∙ map_alike (λ (r : List Field). added (f ∷ r)) (λ (r : List Field). take (n + 1) (set fs n f) ++ r) more (read_fields 8 (fields_at 9 s next))
+  -- where one was read, it stands there
+  module _ (f : Field) (h : n < length fs) (full : length (leading (take n fs)) ≡ n) where
+    place-some : leading (take (n + 1) (set fs n (Some f))) ≡ leading (take n fs) ++ (f ∷ [])
+    place-some = rw (add-one, take-suc-set fs n (Some f) h) (leading_more (take n fs) f (omega (arith, length-take-le n fs (omega arith))))
+
+    goes_on : (l m : List Bytes) → X ≡ map_o added (read_fields 8 l) → Some ((f.class, f.value), m) ≡ both_by (class 8) (value 8) l
+        → X ≡ map_o (λ (r : List Field). leading (take (n + 1) (set fs n (Some f))) ++ r) (read_fields 8 m)
+    goes_on [] m k e = nothing_is (sym e)
+    goes_on (x ∷ l) m k e =
+        k
+        ∙ ap (map_o added) (some_by x l ∙ ap (λ (o : Step (Class × Value)). and_then o onwards) (sym e))
+        ∙ map-twice added (λ (r : List Field). f ∷ r) (read_fields 8 m)
+        ∙ map_alike (λ (r : List Field). added (f ∷ r)) (λ (r : List Field). leading (take (n + 1) (set fs n (Some f))) ++ r) more (read_fields 8 m)
+      where
+        more : (r : List Field) → added (f ∷ r) ≡ leading (take (n + 1) (set fs n (Some f))) ++ r
+        more r = rw place-some (sym (append_assoc (leading (take n fs)) (f ∷ []) r))
+
+  pub row_goes : (old new : Reader) (o : Option Field) → Going X fs n (left old) → n < 8 → Takes (both_by (class 8) (value 8)) old (map_o of_field o) new → Going X (slice_set fs n o) (n + 1) (left new)
+  row_goes old new None k h e =
+      let same : left new ≡ left old = ap left e.2 in
+      record { room = simp length-set k.room; so_far = rw (place-none (omega arith), same) k.so_far; each = inr (rw same (sym e.0)) }
+  row_goes old new (Some f) k h e = go k.each
     where
-      more : (r : List Field) → added (f ∷ r) ≡ take (n + 1) (set fs n f) ++ r
-      more r = rw (add-one, take-suc-set fs n f h) (sym (append_assoc (take n fs) (f ∷ []) r))
+      go : (length (leading (take n fs)) ≡ n) ⊎ (both_by (class 8) (value 8) (left old) ≡ None) → Going X (slice_set fs n (Some f)) (n + 1) (left new)
+      go (inl p) =
+          let i : n < length fs = omega (arith, k.room) in
+          record { room = simp length-set k.room; so_far = goes_on f i p (left old) (left new) k.so_far e.0; each = inl (rw (place-some f i p) (simp length-append (omega arith))) }
+      go (inr p) = nothing_is (sym p ∙ sym e.0)
 
-  -- what is left is no class and value
-  pub row_stops : at ≤ length s → both_by (class 8) (value 8) (fields_at 9 s at) ≡ none → none ≡ X
-  row_stops k e = sym (stepped none k e)
+  -- all places have been come to, and nothing is left
+  pub row_ends : (l : List Bytes) (u : Unit {0}) → Going X fs n l → n ≡ 8 → Some u ≡ when (none_left l) (tt {0}) → Some (leading fs) ≡ and_then X eight
+  unfolding read_fields
+  row_ends [] u k h z =
+      let whole : take n fs ≡ fs = take_all n fs (omega (arith, k.room)) in
+      let e : X ≡ Some (leading fs) = k.so_far ∙ rw whole (ap Some (append-nil (leading fs))) in
+      rw (e, le-leb (length (leading fs)) 8 (omega (arith, k.room, leading_le fs)))
+  row_ends (x ∷ l) u k h z = nothing_is (sym z)
 
-  -- there are eight, and something is left
-  pub row-wide : n ≡ 8 → n ≤ length fs → at ≤ length s → none ≡ and_then X eight
-  row-wide m h k = go (both_by (class 8) (value 8) (fields_at 9 s at)) refl
+  -- something is
+  pub row_stops : (l : List Bytes) → Going X fs n l → n ≡ 8 → None ≡ when (none_left l) (tt {0}) → None ≡ and_then X eight
+  row_stops [] k h z = nothing_is z
+  row_stops (x ∷ l) k h z = go k.each
     where
-      wide : (f : Field) (q : Option (List Field)) → none ≡ and_then (map_o (λ (r : List Field). added (f ∷ r)) q) eight
-      wide f none = refl
-      wide f (some r) =
-          let z : length (take n fs) ≡ n = length-take-le n fs h in
+      to : (o : Step (Class × Value)) → both_by (class 8) (value 8) (x ∷ l) ≡ o → X ≡ map_o added (and_then o onwards)
+      to o e = k.so_far ∙ ap (map_o added) (some_by x l ∙ ap (λ (o : Step (Class × Value)). and_then o onwards) e)
+
+      wide : length (leading (take n fs)) ≡ 8 → (f : Field) (q : Option (List Field)) → None ≡ and_then (map_o (λ (r : List Field). added (f ∷ r)) q) eight
+      wide p f None = refl
+      wide p f (Some r) =
           let y : 8 < length (added (f ∷ r)) = simp length-append (omega arith) in
           rw (lt-leb (length (added (f ∷ r))) 8 y)
 
-      go : (o : Step (Class × Value)) → both_by (class 8) (value 8) (fields_at 9 s at) ≡ o → none ≡ and_then X eight
-      go none e = ap (λ (x : Option (List Field)). and_then x eight) (row_stops k e)
-      go (some x) e =
-          let f : Field = record { class = x.0.0; value = x.0.1 } in
-          wide f (read_fields 8 x.1)
-          ∙ sym (ap (λ (y : Option (List Field)). and_then y eight) (stepped (some x) k e ∙ map-twice added (λ (r : List Field). f ∷ r) (read_fields 8 x.1)))
+      full : length (leading (take n fs)) ≡ 8 → (o : Step (Class × Value)) → both_by (class 8) (value 8) (x ∷ l) ≡ o → None ≡ and_then X eight
+      full p None e = sym (ap (λ (q : Option (List Field)). and_then q eight) (to None e))
+      full p (Some y) e =
+          let f : Field = record { class = y.0.0; value = y.0.1 } in
+          wide p f (read_fields 8 y.1)
+          ∙ sym (ap (λ (q : Option (List Field)). and_then q eight) (to (Some y) e ∙ map-twice added (λ (r : List Field). f ∷ r) (read_fields 8 y.1)))
 
-  -- none is left
-  pub row_ends : n ≤ 8 → n ≤ length fs → length s < at → some (take n fs) ≡ and_then X eight
-  row_ends m h k =
-      let z : length (take n fs) ≡ n = length-take-le n fs h in
-      let e : X ≡ some (take n fs) = left ∙ ap (λ (l : List Bytes). map_o added (read_fields 8 l)) (fields-end 9 s at k) ∙ (unfold read_fields in ap some (append-nil (take n fs))) in
-      rw (e, le-leb (length (take n fs)) 8 (omega arith))
+      go : (length (leading (take n fs)) ≡ n) ⊎ (both_by (class 8) (value 8) (x ∷ l) ≡ None) → None ≡ and_then X eight
+      go (inl p) = full (omega arith) (both_by (class 8) (value 8) (x ∷ l)) refl
+      go (inr p) = sym (ap (λ (q : Option (List Field)). and_then q eight) (to None p))

@@ -1,7 +1,7 @@
 -- What a record that was read from a line says.
 -- Assumes nothing.
-use Rattle.std.specs.Prelude.{Bool, true, List, ℕ, leb, length, take}
-use Rattle.std.proofs.Math.Option.{Option, none, some}
+use Rattle.std.specs.Prelude.{Bool, true, List, [], ◌∷◌, ℕ, leb, length}
+use Rattle.std.specs.Prelude.{Option, None, Some}
 use Rattle.model.specs.declared.Class.{Class}
 use Rattle.model.specs.declared.Field.{Field}
 use Rattle.model.specs.Forms.{◌>>=◌, pick}
@@ -9,25 +9,28 @@ use Rattle.model.specs.Numbers.{Bytes}
 use Rattle.model.specs.Places.{when}
 use Rattle.model.specs.Records as model
 use Rattle.model.specs.Sheets.{Letter, letters, read_by}
-use Rattle.record.specs.declared.Part.{Part}
-use Rattle.record.specs.declared.Part.TheVariants.{Bad, Berth, Column, Directory, Group, Row, Table}
 use Rattle.record.specs.declared.Record.{Record}
+use Rattle.record.specs.declared.Record.TheVariants.{Berth, Column, Directory, Group, Row, Table}
 use Rattle.record.specs.declared.Slot.{Slot}
-use Rattle.record.specs.declared.Slot.TheVariants as slot
 
--- ---- the record of a part, with these fields if it is a row
-unfoldable pub part_in : Part → List Field → Option model.Record
-part_in Bad fs = none
-part_in (Directory d x k) fs = some (d, model.directory x k)
-part_in (Table d t k m) fs = some (d, model.inside (t, model.table k m))
-part_in (Berth d t n k) fs = some (d, model.inside (t, model.berth (n, k)))
-part_in (Group d t n k) fs = some (d, model.inside (t, model.group (n, k)))
-part_in (Column d t n g k f) fs = some (d, model.inside (t, model.column (n, record { group = g; kind = k; default = f })))
-part_in (Row d t k) fs = some (d, model.inside (t, model.row k fs))
+-- ---- the numbers and the class that berths and groups have alike
+abbrev pub in_slot : Slot → ℕ × (ℕ × (ℕ × Class))
+in_slot s = (s.directory, (s.table, (s.number, s.class)))
 
--- a row has the first fields, as many as the count says
-unfoldable pub record_in : Record → Option model.Record
-record_in r = part_in r.part (take r.count r.fields)
+-- ---- the fields of a row: those that stand before the first empty place
+abbrev pub leading : List (Option Field) → List Field
+leading [] = []
+leading (None ∷ l) = []
+leading (Some f ∷ l) = f ∷ leading l
+
+-- ---- the record
+abbrev pub record_in : Record → model.Record
+record_in (Directory d x k) = (d, model.directory x k)
+record_in (Table d t k m) = (d, model.inside (t, model.table k m))
+record_in (Berth s) = (s.directory, model.inside (s.table, model.berth (s.number, s.class)))
+record_in (Group s) = (s.directory, model.inside (s.table, model.group (s.number, s.class)))
+record_in (Column d t n g k f) = (d, model.inside (t, model.column (n, record { group = g; kind = k; default = f })))
+record_in (Row d t k fs) = (d, model.inside (t, model.row k (leading fs)))
 
 -- ---- rows of at most eight fields: no table has more columns, so that a wider one can not be placed
 -- fields, if they are not more than eight
@@ -57,8 +60,3 @@ few o = o >>= λ (r : model.Record). when (narrow r) r
 -- the record by the letter's byte and the fields behind it
 unfoldable pub read_led : ℕ → List Bytes → Option model.Record
 read_led b l = pick letters b >>= λ (x : Letter). read_by 8 x l
-
--- the numbers and the class that berths and groups have alike, or none
-abbrev pub slot_in : Slot → Option (ℕ × (ℕ × (ℕ × Class)))
-slot_in (slot.Is d t n k) = some (d, (t, (n, k)))
-slot_in slot.Bad = none

@@ -1,21 +1,13 @@
--- The loops that write digits: front first, and back to front.
+-- Loops that write digits: front first, and back to front.
 -- Assumes nothing.
-use mathlib.Core.Path.{◌∙◌, ◌≡◌, ap, ap₂, refl}
-use mathlib.Core.Bool.{Bool, cond, false, true}
-use mathlib.Core.List.{◌∷◌}
-use Prim.Native.Nat.{◌%◌, ◌*◌, ◌+◌, ◌-◌, ◌/◌, ◌<◌, ◌^◌, ◌≤◌, suc, zero, ℕ}
+use Rattle.std.proofs.Common.{◌≡◌, ◌∙◌, ap, ap₂, refl, Bool, cond, false, true, ◌∷◌, ◌++◌, [], reverse, ℕ, zero, suc, ◌%◌, ◌*◌, ◌+◌, ◌-◌, ◌/◌, ◌<◌, ◌^◌, ◌≤◌, leb, ltb, arith, length, length-append, add-one}
+use Rattle.std.proofs.lemmas.List.{reverse-append}
 use native.Mathlib.Nat.{div-div-eq-div-mul, div-eq_of_lt, le_refl, lt_of_lt_of_le, pow-le-pow_right, pow-suc}
-use native.Mathlib.Numerals.{add-one}
-use native.Mathlib.Omega.{arith}
-use lib.Dec.{leb, ltb}
-use lib.ListN.{get_or, length, set}
 use lib.Pow.{pow-add}
-use lib.Seq.{get_or-set_other, get_or-set_same}
 use borrow.Author.Tests.{le-ltb, leb-false, leb-true, lt-ltb, ltb-false}
 use Rattle.model.specs.Numbers.{Bytes, dec_text, digit_byte, digits, places}
 use Rattle.model.proofs.DecimalLaws.{places_ge}
 use Rattle.model.proofs.NumberLaws.{places_small}
-use Rattle.room.specs.Turned.{turned}
 
 -- ---- hex digits
 pub pow_16 : (k : ℕ) → 2 ^ (4 * k) ≡ 16 ^ k
@@ -29,34 +21,27 @@ pub no_digits : (n k v : ℕ) → v < 16 ^ n → n ≤ k → v / 16 ^ k ≡ 0
 no_digits n k v h m = div-eq_of_lt (lt_of_lt_of_le h (pow-le-pow_right (omega arith) m))
 
 -- ---- front first: the next digit, and those left
-pub digits-next : (base k v : ℕ) → 0 < k → digits base k v ≡ digit_byte (v / base ^ (k - 1) % base) ∷ digits base (k - 1) v
+pub digits_next : (base k v : ℕ) → 0 < k → digits base k v ≡ digit_byte (v / base ^ (k - 1) % base) ∷ digits base (k - 1) v
 unfolding digits
-digits-next base zero v h = absurd (omega arith)
-digits-next base (suc k) v h = let e : suc k - 1 ≡ k = omega arith in rw e
+digits_next base zero v h = absurd (omega arith)
+digits_next base (suc k) v h = let e : suc k - 1 ≡ k = omega arith in rw e
 
--- ---- back to front
-turned_set : (l : Bytes) (k n x : ℕ) → k ≤ n → turned k (set l n x) ≡ turned k l
-unfolding turned
-turned_set l zero n x h = refl
-turned_set l (suc k) n x h = ap₂ (λ (y : ℕ) (t : Bytes). y ∷ t) (get_or-set_other l n k x 0 (λ e. omega arith)) (turned_set l k n x (omega arith))
+-- ---- back to front: none is made, and one more than those of l
+pub made_none : (v : ℕ) → reverse [] ≡ digits 10 0 v
+unfolding digits
+made_none v = refl
 
--- no digit, and one more
-pub turned_none : (l : Bytes) (v : ℕ) → turned 0 l ≡ digits 10 0 v
-unfolding turned digits
-turned_none l v = refl
-
-pub turned_digit : (l : Bytes) (n v x : ℕ) → n < length l → turned n l ≡ digits 10 n v → x ≡ digit_byte (v / 10 ^ n % 10) → turned (n + 1) (set l n x) ≡ digits 10 (n + 1) v
-unfolding turned digits
-turned_digit l n v x h e k = rw (add-one n) (ap₂ (λ (y : ℕ) (t : Bytes). y ∷ t) (get_or-set_same l n x 0 h ∙ k) (turned_set l n n x (le_refl n) ∙ e))
+pub made_more : (l : Bytes) (v r x : ℕ) → reverse l ≡ digits 10 (length l) v → r ≡ v / 10 ^ length l → x ≡ digit_byte (r % 10 % 16)
+    → reverse (l ++ (x ∷ [])) ≡ digits 10 (length (l ++ (x ∷ []))) v
+unfolding digits
+made_more l v r x e k d =
+    let n = length l in
+    let m : r % 10 % 16 ≡ r % 10 = omega arith in
+    let long : length (l ++ (x ∷ [])) ≡ suc n = omega (arith, length-append l (x ∷ [])) in
+    rw (long, reverse-append l (x ∷ [])) (ap₂ (λ (y : ℕ) (t : Bytes). y ∷ t) (d ∙ ap digit_byte (m ∙ ap (λ (y : ℕ). y % 10) k)) e)
 
 pub rest_more : (v n : ℕ) → v / 10 ^ n / 10 ≡ v / 10 ^ (n + 1)
 rest_more v n = rw (add-one n, pow-suc 10 n) (div-div-eq-div-mul v (10 ^ n) 10)
-
--- copied round: the next, and those left
-pub turned-next : (k : ℕ) (l : Bytes) → 0 < k → turned k l ≡ get_or l (k - 1) 0 ∷ turned (k - 1) l
-unfolding turned
-turned-next zero l h = absurd (omega arith)
-turned-next (suc k) l h = let e : suc k - 1 ≡ k = omega arith in rw e
 
 -- ---- how many decimal digits there are
 places_fuel : (f g v : ℕ) → v ≤ f → v ≤ g → places f v ≡ places g v
@@ -75,16 +60,16 @@ unfolding places
 places_big zero h = absurd (omega arith)
 places_big (suc v) h = rw (le-ltb (suc v) 10 h, add-one) (ap suc (places_fuel v (suc v / 10) (suc v / 10) (omega arith) (le_refl (suc v / 10))))
 
-pub places-some : (v : ℕ) → 1 ≤ places v v
-places-some v = go (leb 10 v) refl
+pub places_some : (v : ℕ) → 1 ≤ places v v
+places_some v = go (leb 10 v) refl
   where
     go : (t : Bool) → leb 10 v ≡ t → 1 ≤ places v v
     go true e = omega (arith, places_big v (leb-true 10 v e))
     go false e = omega (arith, places_small v (leb-false 10 v e))
 
 -- a u64 has twenty at most
-pub places-most : (v : ℕ) → v < 2 ^ 64 → places v v ≤ 20
-places-most v h = go (leb 21 (places v v)) (leb 1 v) refl refl
+pub places_most : (v : ℕ) → v < 2 ^ 64 → places v v ≤ 20
+places_most v h = go (leb 21 (places v v)) (leb 1 v) refl refl
   where
     go : (t u : Bool) → leb 21 (places v v) ≡ t → leb 1 v ≡ u → places v v ≤ 20
     go true true e f =
@@ -93,6 +78,7 @@ places-most v h = go (leb 21 (places v v)) (leb 1 v) refl refl
     go true false e f = omega (arith, places_small v (omega (arith, leb-false 1 v f)))
     go false u e f = omega (arith, leb-false 21 (places v v) e)
 
-pub dec_digits : (n v : ℕ) → places v v ≡ n → digits 10 n v ≡ dec_text v
+-- all are made
+pub made_all : (l : Bytes) (v : ℕ) → reverse l ≡ digits 10 (length l) v → places v v ≡ length l → reverse l ≡ dec_text v
 unfolding dec_text
-dec_digits n v e = rw e
+made_all l v e k = rw k e

@@ -1,44 +1,44 @@
--- Loops that write a list of parts, of any kind, and parts that are there or not.
+-- Loops that write a list of parts, of any kind: a turn of such a loop.
 -- Assumes nothing.
-use mathlib.Core.Path.{◌∙◌, ◌≡◌, ap, refl, subst, sym}
-use mathlib.Core.Bool.{Bool, cond, false, true}
-use mathlib.Core.List.{List, [], ◌++◌, ◌∷◌}
-use Prim.Native.Nat.{◌+◌, ◌<◌, ◌≤◌, ℕ}
-use native.Mathlib.Numerals.{add-one}
-use lib.ListN.{drop, drop_of_length-le, get_or, length}
-use lib.Seq.{drop-cons}
+use Rattle.std.proofs.Common.{◌≡◌, ◌∙◌, ap, refl, sym, List, [], ◌++◌, ◌∷◌, ℕ, suc, ◌+◌, ◌<◌, arith, add-zero, zero-add, append-nil, append_assoc, get_or, length, take}
+use Rattle.std.proofs.lemmas.List.{length-take-le, take_more}
 use Rattle.model.specs.Lines.{flat}
 use Rattle.model.specs.Numbers.{Bytes}
-use Rattle.room.specs.Writing.{Wrote, each, most}
-use Rattle.room.proofs.RoomLaws.{Left, left_less, left-none, wrote_nothing}
+use Rattle.room.specs.declared.Pen.{Pen}
+use Rattle.room.specs.Writing.{Writes, each}
+use Rattle.room.proofs.PenLaws.{writes_both}
 
--- ---- a part that is there is written, and of any other nothing
-pub wrote_yes : {room : Bytes} {at r : ℕ} {room' : Bytes} (b : Bool) (text : Bytes) → b ≡ true → Wrote room at text r room' → Wrote room at (cond b text []) r room'
-wrote_yes {room} {at} {r} {room'} b text e w = subst (λ (x : Bool). Wrote room at (cond x text []) r room') (sym e) w
+-- ---- parts whose text knows their number
+each_append : {A : Type 0} (f : ℕ → A → Bytes) (i : ℕ) (l m : List A) → each f i (l ++ m) ≡ each f i l ++ each f (i + length l) m
+unfolding each
+each_append f i [] m = rw add-zero
+each_append f i (x ∷ l) m =
+    let e : i + 1 + length l ≡ i + suc (length l) = omega arith in
+    ap (λ (t : Bytes). f i x ++ t) (each_append f (i + 1) l m ∙ rw e) ∙ sym (append_assoc (f i x) (each f (i + 1) l) (each f (i + suc (length l)) m))
 
-pub wrote_no : (b : Bool) (text room : Bytes) (at : ℕ) → b ≡ false → length room ≤ most → at ≤ most → Wrote room at (cond b text []) at room
-wrote_no b text room at e h k = subst (λ (x : Bool). Wrote room at (cond x text []) at room) (sym e) (wrote_nothing room at h k)
+each_one : {A : Type 0} (f : ℕ → A → Bytes) (i : ℕ) (x : A) → each f i (x ∷ []) ≡ f i x
+unfolding each
+each_one f i x = append-nil (f i x)
 
--- ---- the loop over a list
-module _ {A : Type 0} (f : ℕ → A → Bytes) (l : List A) (i : ℕ) where
-  each_more : (d : A) → i < length l → each f i (drop i l) ≡ f i (get_or l i d) ++ each f (i + 1) (drop (i + 1) l)
-  unfolding each
-  each_more d h = ap (each f i) (drop-cons l i d h) ∙ ap (λ (m : ℕ). f i (get_or l i d) ++ each f (i + 1) (drop m l)) (sym (add-one i))
+pub each_none : {A : Type 0} (f : ℕ → A → Bytes) (i : ℕ) → each f i [] ≡ []
+unfolding each
+each_none f i = refl
 
-  each-end : length l ≤ i → each f i (drop i l) ≡ []
-  unfolding each
-  each-end h = rw (drop_of_length-le l h)
+each_more : {A : Type 0} (f : ℕ → A → Bytes) (l : List A) (i : ℕ) (d : A) → i < length l → each f 0 (take (i + 1) l) ≡ each f 0 (take i l) ++ f i (get_or l i d)
+each_more f l i d h =
+    let n : 0 + length (take i l) ≡ i = zero-add (length (take i l)) ∙ length-take-le i l (omega arith) in
+    rw (take_more l i d h, each_append f 0 (take i l) (get_or l i d ∷ []), n) (ap (λ (t : Bytes). each f 0 (take i l) ++ t) (each_one f i (get_or l i d)))
 
-  -- a turn, in which the part x is written, and the end
-  pub each_turn : {room : Bytes} {at : ℕ} {text : Bytes} {p : ℕ} {room₁ : Bytes} (d x : A) → i < length l → x ≡ get_or l i d → Left room at text p room₁ (each f i (drop i l))
-      → {q : ℕ} {room₂ : Bytes} → Wrote room₁ p (f i x) q room₂ → Left room at text q room₂ (each f (i + 1) (drop (i + 1) l))
-  each_turn d x h e left w = left_less (f i x) (each f (i + 1) (drop (i + 1) l)) left (each_more d h ∙ ap (λ (y : A). f i y ++ each f (i + 1) (drop (i + 1) l)) (sym e)) w
+-- one more part
+pub writes_part : {A : Type 0} (f : ℕ → A → Bytes) (l : List A) (i : ℕ) (d : A) (p q r : Pen) → Writes p (each f 0 (take i l)) q → Writes q (f i (get_or l i d)) r → i < length l → Writes p (each f 0 (take (i + 1) l)) r
+writes_part f l i d p q r u v h = rw (each_more f l i d h) (writes_both p q r (each f 0 (take i l)) (f i (get_or l i d)) u v)
 
-  pub each_done : {room : Bytes} {at : ℕ} {text : Bytes} {p : ℕ} {room₁ : Bytes} → length l ≤ i → Left room at text p room₁ (each f i (drop i l)) → Wrote room at text p room₁
-  each_done h left = left-none (rw (each-end h) at left)
-
--- parts whose text does not know their number
+-- ---- parts whose text does not know their number
 pub each-flat : {A : Type 0} (f : A → Bytes) (i : ℕ) (l : List A) → each (λ (n : ℕ). f) i l ≡ flat f l
 unfolding each
 each-flat f i [] = refl
 each-flat f i (x ∷ l) = ap (λ (t : Bytes). f x ++ t) (each-flat f (i + 1) l)
+
+-- one more part
+pub writes_item : {A : Type 0} (f : A → Bytes) (l : List A) (i : ℕ) (d : A) (p q r : Pen) → Writes p (flat f (take i l)) q → Writes q (f (get_or l i d)) r → i < length l → Writes p (flat f (take (i + 1) l)) r
+writes_item f l i d p q r u v h = rw (← each-flat f 0 (take (i + 1) l)) (writes_part (λ (n : ℕ). f) l i d p q r (rw (each-flat f 0 (take i l)) u) v h)

@@ -1,4 +1,5 @@
 -- Laws by subject.
 pub mod RoomLaws
+pub mod PenLaws
 pub mod EachLaws
 pub mod DigitLaws

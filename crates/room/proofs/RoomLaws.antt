@@ -1,6 +1,6 @@
--- Texts written one after another, in a loop, and from a room's start.
+-- Texts written one after another, and from a room's start.
 -- Assumes nothing.
-use mathlib.Core.Path.{◌∙◌, ◌≡◌, ap, refl, sym}
+use mathlib.Core.Path.{◌∙◌, ◌≡◌, refl, sym}
 use mathlib.Core.Bool.{Bool, false, true}
 use mathlib.Core.List.{[], ◌++◌, ◌∷◌}
 use Prim.Native.Nat.{◌+◌, ◌<◌, ◌≤◌, min, suc, ℕ}
@@ -8,7 +8,7 @@ use native.Mathlib.Nat.{add-suc, add-zero, suc-add, zero-add}
 use native.Mathlib.Omega.{arith}
 use lib.Dec.{leb}
 use lib.ListN.{length, length-append, set}
-use lib.Seq.{length-sets, set_out, sets, sets-eq}
+use lib.Seq.{set_out, sets, sets-eq}
 use borrow.Author.Tests.{leb-false, leb-true}
 use Rattle.model.specs.Numbers.{Bytes}
 use Rattle.model.specs.Rooms.{written}
@@ -53,34 +53,6 @@ infixr 20 ◌then◌
 -- no text
 pub wrote_nothing : (l : Bytes) (at : ℕ) → length l ≤ most → at ≤ most → Wrote l at [] at l
 wrote_nothing l at h k = record { short = h; next = omega arith; room_is = refl }
-
--- ---- a loop: of the text, `rest` is left to be written from p into the present room
-pub record Left (room : Bytes) (at : ℕ) (text : Bytes) (p : ℕ) (room' : Bytes) (rest : Bytes) : Type 0 where
-  pub short : length room ≤ most
-  pub to : min (p + length rest) most ≡ min (at + length text) most
-  pub fits : p ≤ most
-  pub long : length room' ≡ length room
-  pub whole : sets room at text ≡ sets room' p rest
-
-module _ {l : Bytes} {at : ℕ} {t : Bytes} where
-  pub left-all : length l ≤ most → at ≤ most → Left l at t at l t
-  left-all h k = record { short = h; to = refl; fits = k; long = refl; whole = refl }
-
-  pub left-none : {p : ℕ} {l₁ : Bytes} → Left l at t p l₁ [] → Wrote l at t p l₁
-  left-none h = record { short = h.short; next = omega (arith, h.to, h.fits); room_is = sym h.whole }
-
-  -- a is written, and r is left
-  pub left_less : {p : ℕ} {l₁ rest : Bytes} (a r : Bytes) → Left l at t p l₁ rest → rest ≡ a ++ r → {q : ℕ} {l₂ : Bytes} → Wrote l₁ p a q l₂ → Left l at t q l₂ r
-  left_less {p} {l₁} a r h e {q} {l₂} w =
-      let k : length l₂ ≡ length l₁ = ap length w.room_is ∙ length-sets l₁ p a in
-      let m : sets l₂ q r ≡ sets l₂ (p + length a) r = rw w.next (sets_most l₂ (p + length a) r (omega (arith, k, w.short))) in
-      record {
-        short = h.short;
-        to = omega (arith, h.to, w.next, ap length e, length-append a r);
-        fits = omega (arith, w.next);
-        long = k ∙ h.long;
-        whole = h.whole ∙ ap (λ (x : Bytes). sets l₁ p x) e ∙ sets_append l₁ p a r ∙ sym (m ∙ rw w.room_is);
-      }
 
 -- ---- from a room's start
 -- a text that fits stands there, and the room's other bytes stay

@@ -1,47 +1,83 @@
-// Writers of text into a room that a caller lends. None asks anything of the room: a byte past its end is not stored, so that on an empty
-// room they only count.
+// A pen writes text into a room that a caller lends. It asks nothing of the room: a byte past its end is not stored, so that on an empty
+// room a pen only counts.
 #![tactic(auto)]
 
-ghost use Rattle.std.specs.Prelude.{◌≡◌, [], ◌∷◌, ◌+◌, ◌/◌, ◌^◌, ◌≤◌, min};
+ghost use Rattle.std.specs.Prelude.{◌≡◌, [], ◌∷◌, ◌+◌, ◌/◌, ◌^◌, ◌≤◌, reverse};
 ghost use Rattle.model.specs.Numbers.{dec_text, digits};
-ghost use Rattle.room.specs.Writing.{Wrote, most};
-ghost use Rattle.room.specs.Turned.{turned};
 
-// The next place, as far as a usize goes.
-fn next(at: usize) -> usize
-    ensures { result ≡ min (at + 1) most }
-{
-    if at < 18446744073709551615 {
-        return at + 1;
-    }
-    at
+use arrayvec::ArrayVec;
+use text::numbers::digit_byte;
+
+// A room, and the place where the next byte goes.
+#[derive(Drop)]
+pub struct Pen<'a> {
+    room: &'a mut [u8],
+    place: usize,
+    ghost in_range: { place ≤ 18446744073709551615 },
 }
 
-// One byte.
-pub fn put_byte(room: &mut [u8], at: usize, b: u8) -> usize
-    ensures { Wrote room.old at (b ∷ []) result room.new }
-{
-    if at < room.len() {
-        room[at] = b;
-        return at + 1;
-    }
-    next(at)
-}
+impl<'a> Pen<'a> {
+    ghost use Rattle.room.specs.Writing.{Writes};
 
-// A text that is given.
-pub fn put(room: &mut [u8], at: usize, t: &[u8]) -> usize
-    ensures { Wrote room.old at t.now result room.new }
-{
-    let mut p = at;
-    let mut i = 0;
-    while i < t.len() {
-        p = put_byte(room, p, t[i]);
-        i += 1;
+    // A pen at a place of a room.
+    pub fn new(room: &'a mut [u8], place: usize) -> Pen<'a>
+        ensures same_room { result.room.ghost_name ≡ room.entry.ghost_name }
+        ensures same_bytes { result.room.now ≡ room.old }
+        ensures place { result.place ≡ place }
+    {
+        Pen { room, place }
     }
-    p
+
+    // The place where the next byte goes.
+    pub fn place(&self) -> usize
+        ensures { result ≡ self.now.place }
+    {
+        self.place
+    }
+
+    // One byte.
+    #[tactic(auto, unfolding(crate::specs::Writing::Writes))]
+    pub fn byte(&mut self, b: u8)
+        ensures { Writes self.old (b ∷ []) self.new }
+    {
+        if self.place < self.room.len() {
+            self.room[self.place] = b;
+        }
+        self.place = self.place.saturating_add(1);
+    }
+
+    // A text that is given.
+    #[tactic(auto, using(crate::proofs::PenLaws::writes_none, crate::proofs::PenLaws::writes_next))]
+    pub fn text(&mut self, text: &[u8])
+        ensures { Writes self.old text.now self.new }
+    {
+        for &b in text {
+            self.byte(b);
+        }
+    }
+
+    // The last n hex digits of a number.
+    pub fn hex(&mut self, v: u64, n: usize)
+        ensures { Writes self.old (digits 16 n v) self.new }
+    {
+        for k in (0..n).rev() {
+            self.byte(digit_byte(without(v, k)));
+        }
+    }
+
+    // A number in decimal, its digits copied round.
+    #[tactic(auto, using(crate::proofs::PenLaws::writes_none, crate::proofs::PenLaws::writes_more))]
+    pub fn decimal(&mut self, v: u64)
+        ensures { Writes self.old (dec_text v) self.new }
+    {
+        for &digit in backwards(v).iter().rev() {
+            self.byte(digit);
+        }
+    }
 }
 
 // A number without its last k hex digits.
+#[tactic(auto, using(crate::proofs::DigitLaws::pow_16))]
 fn without(v: u64, k: usize) -> u64
     ensures { result ≡ v / 16 ^ k }
 {
@@ -51,56 +87,18 @@ fn without(v: u64, k: usize) -> u64
     v >> (4 * k)
 }
 
-// The last n hex digits of a number.
-pub fn put_hex(room: &mut [u8], at: usize, v: u64, n: usize) -> usize
-    ensures { Wrote room.old at (digits 16 n v) result room.new }
-{
-    let mut k = n;
-    let mut p = at;
-    while 0 < k {
-        k -= 1;
-        p = put_byte(room, p, text::numbers::digit_byte(without(v, k)));
-    }
-    p
-}
-
-// The decimal digits of a number, its last digit first.
-#[derive(Clone, Copy)]
-struct Digits {
-    bytes: [u8; 20],
-    count: usize,
-}
-
 // A number's decimal digits, made back to front.
-fn backwards(v: u64) -> Digits
-    ensures { (turned result.count result.bytes ≡ dec_text v) × (result.count ≤ 20) }
+fn backwards(v: u64) -> ArrayVec<u8, 20>
+    ensures { reverse result.items ≡ dec_text v }
 {
-    let mut bytes = [0u8; 20];
+    let mut made = ArrayVec::new();
     let mut rest = v;
-    let mut n = 0;
-    while 10 <= rest {
-        bytes[n] = text::numbers::digit_byte(rest % 10);
-        rest /= 10;
-        n += 1;
-    }
-    bytes[n] = text::numbers::digit_byte(rest);
-    Digits {
-        bytes,
-        count: n + 1,
-    }
-}
 
-// A number in decimal, its digits copied round.
-pub fn put_dec(room: &mut [u8], at: usize, v: u64) -> usize
-    ensures { Wrote room.old at (dec_text v) result room.new }
-{
-    let d = backwards(v);
-    let bytes = d.bytes;
-    let mut k = d.count;
-    let mut p = at;
-    while 0 < k {
-        k -= 1;
-        p = put_byte(room, p, bytes[k]);
+    // A `while`: the library's `successors` would want a closure that divides and one that stops, and read no plainer.
+    while 10 <= rest {
+        made.push(digit_byte(rest % 10));
+        rest /= 10;
     }
-    p
+    made.push(digit_byte(rest));
+    made
 }

@@ -1,19 +1,9 @@
 -- Parts that may be absent: a test of each that is there, and the same test of what they stand for. For parts of any type.
 -- Assumes nothing.
-use mathlib.Core.Path.{◌∙◌, ◌≡◌, ap, refl, sym}
+use mathlib.Core.Path.{◌≡◌, ap, refl}
 use mathlib.Core.Bool.{Bool, ◌&&◌, ◌||◌, false, not, true}
 use mathlib.Core.List.{List, [], ◌∷◌, map}
-use Rattle.model.specs.Places.{Places, all, all_in, sure, when}
-
--- ---- one part, with the mark t that says whether it is there
--- what is there passes by its test
-pub here : (t x y : Bool) → not t ≡ false → y ≡ x → y ≡ (not t || x)
-here t x y e h = h ∙ sym (ap (λ (b : Bool). b || x) e)
-
--- it is there and passes
-pub sure-when : {A : Type 0} (p : A → Bool) (t : Bool) (a : A) → (t && p a) ≡ sure p (when t a)
-sure-when p true a = refl
-sure-when p false a = refl
+use Rattle.model.specs.Places.{Places, all, all_in, any, when}
 
 -- ---- each part of a list
 -- one part before the others
@@ -26,3 +16,9 @@ pub all-kept : {A B : Type 0} (there : B → Bool) (of : B → A) (p : A → Boo
     → all (λ (b : B). not (there b) || p (of b)) l ≡ all_in p (map (λ (b : B). when (there b) (of b)) l)
 all-kept there of p [] = refl
 all-kept there of p (b ∷ l) = one_more p (there b) (of b) _ (map (λ (b : _). when (there b) (of b)) l) (all-kept there of p l)
+
+-- ---- each element of a list, by what it stands for
+-- one of them passes
+pub any_map : {A B : Type 0} (p : A → Bool) (f : B → A) (l : List B) → any (λ (b : B). p (f b)) l ≡ any p (map f l)
+any_map p f [] = refl
+any_map p f (b ∷ l) = ap (λ (x : Bool). p (f b) || x) (any_map p f l)

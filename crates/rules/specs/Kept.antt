@@ -4,18 +4,22 @@ use Rattle.std.specs.Prelude.{Bool, not, ◌||◌, List, map, ℕ}
 use Rattle.model.specs.declared.Class.{Class}
 use Rattle.model.specs.Places.{at, sure}
 use Rattle.model.specs.Classes.{dominates}
-use Rattle.model.specs.Rules.{berth_ok, column_ok, table_ok, directory_ok, table_plain, directory_plain}
+use Rattle.model.specs.Rules.{berth_ok, same_berth, column_ok, table_ok, directory_ok, table_plain, directory_plain}
 use Rattle.store.specs.declared.Berth.{Berth}
 use Rattle.store.specs.declared.Group.{Group}
 use Rattle.store.specs.declared.Column.{Column}
 use Rattle.store.specs.declared.Table.{Table}
 use Rattle.store.specs.declared.Directory.{Directory}
-use Rattle.store.specs.Packed.{unpacked_group, column_of, table_of, directory_of}
+use Rattle.store.specs.Packed.{unpacked_berth, unpacked_group, column_of, table_of, directory_of}
 
 -- ---- berths and columns
 -- a berth between a table's class and its maximum
 abbrev pub berth_kept : Class → Class → Berth → Bool
 berth_kept class max b = not b.there || berth_ok class max b.class
+
+-- two berths are there and of one class
+abbrev pub alike : Berth → Berth → Bool
+alike a b = same_berth (unpacked_berth a) (unpacked_berth b)
 
 -- the group at a number is there and dominates a class
 abbrev pub group_over : List Group → ℕ → Class → Bool

@@ -1,15 +1,15 @@
 // Whether a store by value keeps the rules.
 #![tactic(auto)]
 
-ghost use Rattle.std.specs.Prelude.{◌≡◌, not, map};
-ghost use Rattle.model.specs.Places.{all_in, twice};
-ghost use Rattle.model.specs.Rules.{berth_ok, column_ok, plain, ruled, same_berth};
-ghost use Rattle.store.specs.Packed.{unpacked, unpacked_berth, unpacked_column, unpacked_group};
-ghost use Rattle.rules.specs.Kept.{berth_kept, column_kept, directory_kept, directory_shown, group_over, table_kept, table_shown};
+ghost use Rattle.std.specs.Prelude.{◌≡◌, Bool};
+ghost use Rattle.model.specs.Places.{all, any, twice};
+ghost use Rattle.model.specs.Rules.{plain, ruled};
+ghost use Rattle.store.specs.Packed.{unpacked};
+ghost use Rattle.rules.specs.Kept.{alike, berth_kept, column_kept, directory_kept, directory_shown, group_over, table_kept, table_shown};
 ghost use Rattle.rules.specs.Ours.{ours, ours_plain};
 
 use canon::canonical_store;
-use class::{dominates, same_class};
+use class::dominates;
 use field::fits_kind;
 use model::Class;
 use rowrules::{rooms_ok, rows_ok, rows_plain};
@@ -18,191 +18,172 @@ use store::{Berth, Column, Directory, Group, Store, Table};
 // ---- berths
 
 // Whether a berth is absent, or lies between a table's class and its maximum.
+#[tactic(auto, unfolding(model::specs::Rules::berth_ok))]
 pub(crate) fn berth_ok(class: Class, max: Class, b: Berth) -> bool
     ensures { result ≡ berth_kept class max b }
 {
-    let c = b.class;
-    !b.there | (dominates(c, class) & dominates(max, c))
+    !b.there || (dominates(b.class, class) && dominates(max, b.class))
 }
 
 // Whether each berth lies between a table's class and its maximum.
 pub(crate) fn berths_ok(class: Class, max: Class, l: [Berth; 4]) -> bool
-    ensures { result ≡ all_in (berth_ok class max) (map unpacked_berth l) }
+    ensures { result ≡ all (berth_kept class max) l }
 {
-    let b0 = l[0];
-    let b1 = l[1];
-    let b2 = l[2];
-    let b3 = l[3];
-    berth_ok(class, max, b0)
-        & berth_ok(class, max, b1)
-        & berth_ok(class, max, b2)
-        & berth_ok(class, max, b3)
+    l.iter().all(|&b| berth_ok(class, max, b))
 }
 
 // Whether two berths are there and are of one class.
+#[tactic(auto, unfolding(model::specs::Rules::same_berth, model::specs::Classes::same, store::specs::Packed::unpacked_berth))]
 pub(crate) fn same_berth(a: Berth, b: Berth) -> bool
-    ensures { result ≡ same_berth (unpacked_berth a) (unpacked_berth b) }
+    ensures { result ≡ alike a b }
 {
-    let x = a.class;
-    let y = b.class;
-    a.there & (b.there & same_class(x, y))
+    a.there && b.there && a.class == b.class
 }
 
-// Whether no two berths are of one class.
-pub(crate) fn berths_apart(l: [Berth; 4]) -> bool
-    ensures { result ≡ not (twice same_berth (map unpacked_berth l)) }
+// Whether one of some berths is there and of the class of a given one.
+pub(crate) fn among_berths(a: Berth, l: &[Berth]) -> bool
+    ensures { result ≡ any (alike a) l.now }
 {
-    let a = l[0];
-    let b = l[1];
-    let c = l[2];
-    let d = l[3];
-    let first = same_berth(a, b) | same_berth(a, c) | same_berth(a, d);
-    !(first | same_berth(b, c) | same_berth(b, d) | same_berth(c, d))
+    l.iter().any(|&b| same_berth(a, b))
+}
+
+// Whether two of the berths are of one class.
+pub(crate) fn berths_twice(l: &[Berth]) -> bool
+    ensures { result ≡ twice alike l.now }
+{
+    match l {
+        [] => false,
+        [a, rest @ ..] => among_berths(*a, rest) || berths_twice(rest),
+    }
 }
 
 // ---- columns
 
 // Whether the group at a number is there and dominates a class.
+#[tactic(auto, using(crate::proofs::GroupLaws::group_read, crate::proofs::GroupLaws::group_past), unfolding(store::specs::Packed::unpacked_group))]
 pub(crate) fn group_over(gs: [Group; 4], n: u8, c: Class) -> bool
     ensures { result ≡ group_over gs n c }
 {
-    if 3 < n {
-        return false;
-    }
-    let g = gs[n as usize];
-    let e = g.exist;
-    g.there & dominates(e, c)
+    gs.get(usize::from(n))
+        .is_some_and(|g| g.there && dominates(g.exist, c))
 }
 
 // Whether a column is absent, or its group dominates its default, which is blank or of its kind.
+#[tactic(auto, unfolding(model::specs::Rules::column_ok, store::specs::Packed::column_of))]
 pub(crate) fn column_ok(gs: [Group; 4], k: Column) -> bool
     ensures { result ≡ column_kept gs k }
 {
-    let n = k.group;
-    let f = k.default;
-    let c = f.class;
-    let v = f.value;
-    let kind = k.kind;
-    !k.there | (group_over(gs, n, c) & fits_kind(kind, v))
+    !k.there || (group_over(gs, k.group, k.default.class) && fits_kind(k.kind, k.default.value))
 }
 
 // Whether the group of each column dominates its default, which is blank or of its kind.
 pub(crate) fn columns_ok(gs: [Group; 4], l: [Column; 8]) -> bool
-    ensures { result ≡ all_in (column_ok (map unpacked_group gs)) (map unpacked_column l) }
+    ensures { result ≡ all (column_kept gs) l }
 {
-    let mut i: usize = 0;
-    while i < 8 {
-        let x = l[i];
-        if !column_ok(gs, x) {
-            return false;
-        }
-        i += 1;
-    }
-    true
+    l.iter().all(|&k| column_ok(gs, k))
 }
 
 // ---- tables, directories, the store
 
-// Whether a table is absent, or keeps the rules.
-pub(crate) fn table_ok(t: Table) -> bool
-    ensures { result ≡ table_kept t }
-{
-    if !t.there {
-        return true;
-    }
-    let class = t.class;
-    let max = t.max;
-    let bs = t.berths;
-    let gs = t.groups;
-    let ks = t.columns;
-    let rs = t.rows;
-    let n = t.count;
-    let parts = dominates(max, class)
-        & berths_ok(class, max, bs)
-        & berths_apart(bs)
-        & columns_ok(gs, ks);
-    parts & rows_ok(bs, ks, rs, n) & rooms_ok(rs, n, bs)
+// A part with rows in it: a table, or a directory. What is absent passes. (The two tests of each are not twins: one is of the rules, one of what a sheet may show.)
+pub(crate) trait Ruled: Copy {
+    ghost kept: { Self → Bool };
+
+    ghost shown: { Self → Bool };
+
+    // Whether it is absent, or keeps the rules.
+    fn is_ok(self) -> bool
+        ensures { result ≡ kept self };
+
+    // Whether it is absent, or no field of its rows is hidden.
+    fn is_plain(self) -> bool
+        ensures { result ≡ shown self };
 }
 
-// Whether a directory is absent, or its tables keep the rules.
-pub(crate) fn directory_ok(d: Directory) -> bool
-    ensures { result ≡ directory_kept d }
+// Whether each part is absent, or keeps the rules.
+pub(crate) fn all_ok<T: Ruled>(parts: &[T]) -> bool
+    ensures { result ≡ all T.kept parts.now }
 {
-    if !d.there {
-        return true;
+    parts.iter().all(|p| p.is_ok())
+}
+
+// Whether no field is hidden in the parts that are there.
+pub(crate) fn all_plain<T: Ruled>(parts: &[T]) -> bool
+    ensures { result ≡ all T.shown parts.now }
+{
+    parts.iter().all(|p| p.is_plain())
+}
+
+// A table keeps the rules if its berths, columns and rows do.
+impl Ruled for Table {
+    ghost kept = { table_kept };
+
+    ghost shown = { table_shown };
+
+    #[tactic(auto, using(crate::proofs::TableLaws::table_ruled), unfolding(store::specs::Packed::rows_in))]
+    fn is_ok(self) -> bool {
+        !self.there
+            || (dominates(self.max, self.class)
+                && berths_ok(self.class, self.max, self.berths)
+                && !berths_twice(&self.berths)
+                && columns_ok(self.groups, self.columns)
+                && rows_ok(self.berths, self.columns, self.held())
+                && rooms_ok(self.held(), self.berths))
     }
-    let t0 = d.tables[0];
-    let t1 = d.tables[1];
-    table_ok(t0) & table_ok(t1)
+
+    #[tactic(auto, using(crate::proofs::TableLaws::table_shown_is), unfolding(store::specs::Packed::rows_in))]
+    fn is_plain(self) -> bool {
+        !self.there || rows_plain(self.columns, self.held())
+    }
+}
+
+// A directory keeps the rules if its tables do.
+impl Ruled for Directory {
+    ghost kept = { directory_kept };
+
+    ghost shown = { directory_shown };
+
+    #[tactic(auto, using(crate::proofs::TableLaws::directory_ruled))]
+    fn is_ok(self) -> bool {
+        !self.there || all_ok(&self.tables)
+    }
+
+    #[tactic(auto, using(crate::proofs::TableLaws::directory_shown_is))]
+    fn is_plain(self) -> bool {
+        !self.there || all_plain(&self.tables)
+    }
 }
 
 // Whether what a store stands for keeps the rules of the parts.
+#[tactic(auto, using(crate::proofs::TableLaws::store_ruled))]
 pub fn ruled_store(s: Store) -> bool
     ensures { result ≡ ruled (unpacked s) }
 {
-    let d0 = s.dirs[0];
-    let d1 = s.dirs[1];
-    let d2 = s.dirs[2];
-    let d3 = s.dirs[3];
-    directory_ok(d0) & directory_ok(d1) & directory_ok(d2) & directory_ok(d3)
-}
-
-// ---- no field is hidden
-
-// Whether a table is absent, or no field of its rows is hidden.
-pub(crate) fn table_plain(t: Table) -> bool
-    ensures { result ≡ table_shown t }
-{
-    if !t.there {
-        return true;
-    }
-    let ks = t.columns;
-    let rs = t.rows;
-    let n = t.count;
-    rows_plain(ks, rs, n)
-}
-
-// Whether a directory is absent, or no field in its tables is hidden.
-pub(crate) fn directory_plain(d: Directory) -> bool
-    ensures { result ≡ directory_shown d }
-{
-    if !d.there {
-        return true;
-    }
-    let t0 = d.tables[0];
-    let t1 = d.tables[1];
-    table_plain(t0) & table_plain(t1)
+    all_ok(&s.dirs)
 }
 
 // Whether no row's field is hidden in what a store stands for.
+#[tactic(auto, using(crate::proofs::TableLaws::store_shown))]
 pub fn plain_store(s: Store) -> bool
     ensures { result ≡ plain (unpacked s) }
 {
-    let d0 = s.dirs[0];
-    let d1 = s.dirs[1];
-    let d2 = s.dirs[2];
-    let d3 = s.dirs[3];
-    directory_plain(d0) & directory_plain(d1) & directory_plain(d2) & directory_plain(d3)
+    all_plain(&s.dirs)
 }
 
 // ---- a store that is ours
 
 // Whether a store is canonical and keeps the rules.
+#[tactic(auto, using(crate::proofs::OursLaws::canonical_rules), unfolding(crate::specs::Ours::ours))]
 pub fn keeps_rules(s: Store) -> bool
     ensures { result ≡ ours s }
 {
-    if !canonical_store(s) {
-        return false;
-    }
-    ruled_store(s)
+    canonical_store(s) && ruled_store(s)
 }
 
 // Whether a store is canonical and keeps the rules, and no row's field is hidden: what a sheet is to give.
+#[tactic(auto, unfolding(crate::specs::Ours::ours_plain))]
 pub fn keeps_sheet(s: Store) -> bool
     ensures { result ≡ ours_plain s }
 {
-    if !keeps_rules(s) {
-        return false;
-    }
-    plain_store(s)
+    keeps_rules(s) && plain_store(s)
 }

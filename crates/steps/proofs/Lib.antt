@@ -1,3 +1,3 @@
--- Laws of steps along a line.
-pub mod StepLaws
+-- Laws of the steps of a reader.
+mod StepLaws
 pub mod FormLaws

@@ -1,35 +1,42 @@
--- A step by the field that stands at a place, and by the place behind it.
+-- What is left of the line s at a place, and behind the field there.
 -- Assumes nothing.
-use mathlib.Core.Path.{◌∙◌, ◌≡◌, ap, refl, sym}
+use mathlib.Core.Path.{◌≡◌, ap, refl, sym}
+use mathlib.Core.Bool.{false, true}
 use mathlib.Core.List.{List, [], ◌∷◌}
-use mathlib.Core.Option.{none, some}
-use Prim.Native.Nat.{ℕ}
+use Rattle.std.specs.Prelude.{Some}
+use Prim.Native.Nat.{◌<◌, ◌≤◌, ℕ}
+use native.Mathlib.Omega.{arith}
+use Rattle.std.proofs.Common.{Fits, w8}
 use lib.ListN.{length}
-use Rattle.model.specs.Forms.{Form}
-use Rattle.model.specs.Numbers.{Bytes}
+use Rattle.model.specs.declared.Class.{Class}
+use Rattle.model.specs.Numbers.{Bytes, read_dec}
 use Rattle.model.specs.Places.{map_o}
+use Rattle.model.specs.Texts.{class, read_class}
+use Rattle.model.proofs.DecimalLaws.{dec_text_lem}
 use Rattle.model.proofs.OptionLaws.{nothing_is}
 use Rattle.text.specs.Fields.{behind, field_at, fields_at, first_of, others_of}
-use Rattle.text.proofs.FieldLaws.{fields-others}
-use Rattle.steps.specs.Steps.{first_by}
+use Rattle.text.proofs.FieldLaws.{fields-end, fields-more, fields-others}
+use Rattle.steps.specs.Steps.{first_by, none_left}
 
-module _ {A : Type 0} (f : Form A) where
-  first_no : (l : List Bytes) → f.read (first_of l) ≡ none → first_by f l ≡ none
-  first_no [] e = refl
-  first_no (x ∷ l) e = ap (map_o (λ (a : A). (a, l))) e
+module _ (s : Bytes) (at : ℕ) where
+  pub past_end : length s < at → none_left (fields_at 9 s at) ≡ true
+  past_end h = ap none_left (fields-end 9 s at h)
 
-  first_yes : f.read [] ≡ none → (l : List Bytes) (a : A) → f.read (first_of l) ≡ some a → first_by f l ≡ some (a, others_of l)
-  first_yes void [] a e = nothing_is (sym void ∙ e)
-  first_yes void (x ∷ l) a e = ap (map_o (λ (a : A). (a, l))) e
+  pub before_end : at ≤ length s → none_left (fields_at 9 s at) ≡ false
+  before_end h = ap none_left (fields-more 9 s at (field_at 9 s at) (behind s at (length (field_at 9 s at))) refl refl h)
 
-  -- x is the field at the place, and r the place behind it
-  module _ (s : Bytes) (at : ℕ) (x : Bytes) (here : x ≡ field_at 9 s at) where
-    pub step_bad : f.read x ≡ none → none ≡ first_by f (fields_at 9 s at)
-    unfolding field_at
-    step_bad e = sym (first_no (fields_at 9 s at) (sym (ap f.read here) ∙ e))
+  -- x is the field there, and r the place behind it
+  pub others_left : (x : Bytes) (r : ℕ) → x ≡ field_at 9 s at → r ≡ behind s at (length x) → fields_at 9 s r ≡ others_of (fields_at 9 s at)
+  others_left x r here next = fields-others 9 s at x r here next
 
-    pub step_to : f.read [] ≡ none → (r : ℕ) → r ≡ behind s at (length x) → (a : A) → f.read x ≡ some a → some (a, fields_at 9 s r) ≡ first_by f (fields_at 9 s at)
-    unfolding field_at
-    step_to void r next a e =
-        ap (λ (l : List Bytes). some (a, l)) (fields-others 9 s at x r here next)
-        ∙ sym (first_yes void (fields_at 9 s at) a (sym (ap f.read here) ∙ e))
+-- a number that was read fits where its limit does
+pub number_fits : (limit n : ℕ) (x : Bytes) → Fits w8 limit → Some n ≡ read_dec limit x → Fits w8 n
+number_fits limit n x h e =
+    let k : n ≤ limit = (dec_text_lem limit n x (sym e)).0 in
+    record { fits = omega arith }
+
+-- a class that was read of the first field, and the others
+pub class_some : (l m : List Bytes) (k : Class) → Some k ≡ read_class 8 (first_of l) → m ≡ others_of l → Some (k, m) ≡ first_by (class 8) l
+unfolding read_class
+class_some [] m k e h = nothing_is (sym e)
+class_some (x ∷ l) m k e h = rw h (ap (map_o (λ (k : Class). (k, l))) e)

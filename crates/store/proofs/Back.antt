@@ -3,7 +3,7 @@
 use mathlib.Core.Path.{◌∙◌, ◌≡◌, ap, ap₂, refl, sym}
 use mathlib.Core.Bool.{◌&&◌, ◌||◌, false, false≢true, true}
 use mathlib.Core.List.{List, [], ◌++◌, ◌∷◌, map, zip_with}
-use mathlib.Core.Option.{some}
+use Rattle.std.specs.Prelude.{Some}
 use Prim.Native.Nat.{◌-◌, ◌≤◌, ℕ}
 use Prim.Native.Char.{code}
 use native.Mathlib.Omega.{arith}
@@ -151,7 +151,7 @@ table_empty_lem t y p =
       rows = (all_one row_empty no_row row_empty_lem t.rows none_left ∙ ap (λ (j : ℕ). replicate j no_row) y.long.rows32) i;
     })
 
-pub table_full : (t : Table) → TidyTable t → t.there ≡ true → packed_table (some (table_of t)) ≡ t
+pub table_full : (t : Table) → TidyTable t → t.there ≡ true → packed_table (Some (table_of t)) ≡ t
 unfolding packed_table table_of rows_in
 table_full t y p =
     let l = y.long.rows32 in
@@ -174,7 +174,7 @@ unfolding unpacked_table packed_table
 table-back t e = packs_back packed_table t.there (table_of t) t (table_full t (tidy_table t e)) (table_empty_lem t (tidy_table t e))
 
 -- ---- directories and the store
-directory_full : (d : Directory) → TidyDirectory d → d.there ≡ true → packed_directory (some (directory_of d)) ≡ d
+directory_full : (d : Directory) → TidyDirectory d → d.there ≡ true → packed_directory (Some (directory_of d)) ≡ d
 unfolding packed_directory directory_of
 directory_full d y p =
     λ i. record { there = sym p i; exist = d.exist; class = d.class; tables = all_back unpacked_table packed_table table_tidy table-back d.tables y.tables i }

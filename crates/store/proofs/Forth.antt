@@ -3,7 +3,7 @@
 use mathlib.Core.Path.{◌∙◌, ◌≡◌, ap, ap₂, refl}
 use mathlib.Core.Bool.{false≢true, true}
 use mathlib.Core.List.{List, [], ◌∷◌, map, zip_with}
-use mathlib.Core.Option.{Option, none, some}
+use Rattle.std.specs.Prelude.{Option, None, Some}
 use Prim.Native.Nat.{◌-◌, ℕ}
 use lib.Dec.{eqb}
 use lib.ListN.{length, length-map, replicate, take}
@@ -23,26 +23,26 @@ use Rattle.store.proofs.PartLaws.{all_back, in_back, map_back}
 -- ---- berths, groups, columns
 pub berth-forth : (o : Option Class) → unpacked_berth (packed_berth o) ≡ o
 unfolding packed_berth unpacked_berth
-berth-forth none = refl
-berth-forth (some k) = refl
+berth-forth None = refl
+berth-forth (Some k) = refl
 
 pub group-forth : (o : Option Class) → unpacked_group (packed_group o) ≡ o
 unfolding packed_group unpacked_group
-group-forth none = refl
-group-forth (some k) = refl
+group-forth None = refl
+group-forth (Some k) = refl
 
 pub column-forth : (o : Option model.Column) → unpacked_column (packed_column o) ≡ o
 unfolding packed_column unpacked_column column_of
-column-forth none = refl
-column-forth (some k) = refl
+column-forth None = refl
+column-forth (Some k) = refl
 
 -- ---- rows
 field-forth : (k : Option model.Column) (f : Option Field) → field_ok k f ≡ true → unpacked_field (packed_column k) (packed_field f) ≡ f
 unfolding field_ok unpacked_field packed_column packed_field
-field-forth none none e = refl
-field-forth none (some f) e = absurd (false≢true e)
-field-forth (some k) none e = absurd (false≢true e)
-field-forth (some k) (some f) e = refl
+field-forth None None e = refl
+field-forth None (Some f) e = absurd (false≢true e)
+field-forth (Some k) None e = absurd (false≢true e)
+field-forth (Some k) (Some f) e = refl
 
 fields-forth : (ks : Places model.Column) (fs : Places Field) → fields_ok ks fs ≡ true
     → zip_with unpacked_field (map packed_column ks) (map packed_field fs) ≡ fs
@@ -63,10 +63,10 @@ unfolding pad
 rows-there m l = take_at (map packed_row l) (replicate (m - length (map packed_row l)) no_row) (length l) (length-map l packed_row)
 
 -- ---- tables, directories, the store
-pub table-forth : (t : model.Table) → table_ok t ≡ true → unpacked_table (packed_table (some t)) ≡ some t
+pub table-forth : (t : model.Table) → table_ok t ≡ true → unpacked_table (packed_table (Some t)) ≡ Some t
 unfolding packed_table unpacked_table table_of rows_in
 table-forth t e =
-    λ i. some (record {
+    λ i. Some (record {
       class = t.class;
       max = t.max;
       berths = map_back packed_berth unpacked_berth berth-forth t.berths i;
@@ -77,10 +77,10 @@ table-forth t e =
           ∙ all_back packed_row (unpacked_row (map packed_column t.columns)) (row_ok t.berths t.columns) (row-forth t.berths t.columns) t.rows (table-rules t e).filled) i;
     })
 
-pub directory-forth : (d : model.Directory) → directory_ok d ≡ true → unpacked_directory (packed_directory (some d)) ≡ some d
+pub directory-forth : (d : model.Directory) → directory_ok d ≡ true → unpacked_directory (packed_directory (Some d)) ≡ Some d
 unfolding directory_ok packed_directory unpacked_directory directory_of packed_table unpacked_table
 directory-forth d e =
-    λ i. some (record {
+    λ i. Some (record {
       exist = d.exist;
       class = d.class;
       tables = in_back packed_table unpacked_table table_ok refl table-forth d.tables (and-snd (eqb (length d.tables) 2) (all_in table_ok d.tables) e) i;

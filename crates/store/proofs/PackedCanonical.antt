@@ -3,7 +3,7 @@
 use mathlib.Core.Path.{◌∙◌, ◌≡◌, ap, refl}
 use mathlib.Core.Bool.{false≢true, true}
 use mathlib.Core.List.{List, [], ◌∷◌, map}
-use mathlib.Core.Option.{Option, none, some}
+use Rattle.std.specs.Prelude.{Option, None, Some}
 use Prim.Native.Nat.{◌-◌, ◌≤◌, ℕ}
 use native.Mathlib.Omega.{arith}
 use lib.Dec.{eqb}
@@ -32,15 +32,15 @@ use Rattle.store.proofs.TidyLaws.{directory_tidy_lem, table_tidy_lem}
 use Rattle.store.proofs.Forth.{rows-there}
 
 -- ---- berths, groups, columns
-berth_tidy_lem : (k : Class) → class_sound 8 k ≡ true → berth_tidy (packed_berth (some k)) ≡ true
+berth_tidy_lem : (k : Class) → class_sound 8 k ≡ true → berth_tidy (packed_berth (Some k)) ≡ true
 unfolding berth_tidy packed_berth
 berth_tidy_lem k e = both (class_sound 8 k) true e refl
 
-group_tidy_lem : (k : Class) → class_sound 8 k ≡ true → group_tidy (packed_group (some k)) ≡ true
+group_tidy_lem : (k : Class) → class_sound 8 k ≡ true → group_tidy (packed_group (Some k)) ≡ true
 unfolding group_tidy packed_group
 group_tidy_lem k e = both (class_sound 8 k) true e refl
 
-column_tidy_lem : (k : model.Column) → column_sound 8 k ≡ true → column_tidy (packed_column (some k)) ≡ true
+column_tidy_lem : (k : model.Column) → column_sound 8 k ≡ true → column_tidy (packed_column (Some k)) ≡ true
 unfolding column_tidy packed_column column_sound
 column_tidy_lem k e = both (field_sound 8 k.default) true e refl
 
@@ -91,10 +91,10 @@ no_directory_tidy =
 -- ---- rows
 field_tidy_lem : (k : Option model.Column) (f : Option Field) → field_ok k f ≡ true → unless (field_sound 8) f ≡ true → field_tidy (packed_column k) (packed_field f) ≡ true
 unfolding field_ok field_tidy packed_column packed_field
-field_tidy_lem none none e h = no_field_tidy
-field_tidy_lem none (some f) e h = absurd (false≢true e)
-field_tidy_lem (some k) none e h = absurd (false≢true e)
-field_tidy_lem (some k) (some f) e h = both (field_sound 8 f) true h refl
+field_tidy_lem None None e h = no_field_tidy
+field_tidy_lem None (Some f) e h = absurd (false≢true e)
+field_tidy_lem (Some k) None e h = absurd (false≢true e)
+field_tidy_lem (Some k) (Some f) e h = both (field_sound 8 f) true h refl
 
 fields_tidy : (ks : Places model.Column) (fs : Places Field) → fields_ok ks fs ≡ true → all_in (field_sound 8) fs ≡ true
     → all_pairs field_tidy (map packed_column ks) (map packed_field fs) ≡ true
@@ -134,12 +134,12 @@ pad-long m l h =
     ∙ omega (arith, length-map l packed_row, length-replicate (m - length (map packed_row l)) no_row)
 
 -- ---- tables, directories, the store
-table-packed : (t : model.Table) → (table_ok t ≡ true) × (table_sound 8 t ≡ true) → table_tidy (packed_table (some t)) ≡ true
+table-packed : (t : model.Table) → (table_ok t ≡ true) × (table_sound 8 t ≡ true) → table_tidy (packed_table (Some t)) ≡ true
 unfolding packed_table packed_berth packed_group packed_column rows_in
 table-packed t e =
     let o = table-rules t e.0 in
     let s = table_sounds_lem 8 t e.1 in
-    table_tidy_lem (packed_table (some t))
+    table_tidy_lem (packed_table (Some t))
     (record {
       class = s.class;
       max = s.max;
@@ -160,12 +160,12 @@ table-packed t e =
           };
     })
 
-directory-packed : (d : model.Directory) → (directory_ok d ≡ true) × (directory_sound 8 d ≡ true) → directory_tidy (packed_directory (some d)) ≡ true
+directory-packed : (d : model.Directory) → (directory_ok d ≡ true) × (directory_sound 8 d ≡ true) → directory_tidy (packed_directory (Some d)) ≡ true
 unfolding packed_directory directory_ok directory_sound packed_table
 directory-packed d e =
     let l = d.tables in
     let s = facts (class_sound 8 d.exist ∷ class_sound 8 d.class ∷ all_in (table_sound 8) l ∷ []) e.1 in
-    directory_tidy_lem (packed_directory (some d))
+    directory_tidy_lem (packed_directory (Some d))
     (record {
       exist = s.0;
       class = s.1.0;

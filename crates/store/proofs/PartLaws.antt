@@ -3,7 +3,7 @@
 use mathlib.Core.Path.{◌∙◌, ◌≡◌, ap, ap₂, refl, sym}
 use mathlib.Core.Bool.{Bool, ◌||◌, false, false≢true, not, true}
 use mathlib.Core.List.{List, [], ◌∷◌, map}
-use mathlib.Core.Option.{Option, none, some}
+use Rattle.std.specs.Prelude.{Option, None, Some}
 use Prim.Native.Nat.{suc, zero, ℕ}
 use lib.ListN.{length, replicate}
 use Rattle.model.specs.Places.{Places, all, all_in, when}
@@ -18,12 +18,12 @@ other false s e f = e
 
 -- ---- one part, with the mark t that says whether it is there
 module _ {A B : Type 0} (pk : Option A → B) where
-  pub packs_back : (t : Bool) (a : A) (b : B) → (t ≡ true → pk (some a) ≡ b) → (t ≡ false → pk none ≡ b) → pk (when t a) ≡ b
+  pub packs_back : (t : Bool) (a : A) (b : B) → (t ≡ true → pk (Some a) ≡ b) → (t ≡ false → pk None ≡ b) → pk (when t a) ≡ b
   packs_back true a b f g = f refl
   packs_back false a b f g = g refl
 
   -- what packs back and is not there is the constant
-  pub away_is : (t : Bool) (a : A) (b : B) → pk (when t a) ≡ b → not t ≡ true → b ≡ pk none
+  pub away_is : (t : Bool) (a : A) (b : B) → pk (when t a) ≡ b → not t ≡ true → b ≡ pk None
   away_is true a b e h = absurd (false≢true h)
   away_is false a b e h = sym e
 
@@ -58,11 +58,11 @@ module _ {A B : Type 0} (f : A → B) (g : B → A) where
   all_back p h [] e = refl
   all_back p h (a ∷ l) e = ap₂ (λ (x : A) (r : List A). x ∷ r) (h a (and-fst (p a) (all p l) e)) (all_back p h l (and-snd (p a) (all p l) e))
 
-pub in_back : {A B : Type 0} (pk : Option A → B) (un : B → Option A) (p : A → Bool) → un (pk none) ≡ none → ((a : A) → p a ≡ true → un (pk (some a)) ≡ some a)
+pub in_back : {A B : Type 0} (pk : Option A → B) (un : B → Option A) (p : A → Bool) → un (pk None) ≡ None → ((a : A) → p a ≡ true → un (pk (Some a)) ≡ Some a)
     → (l : Places A) → all_in p l ≡ true → map un (map pk l) ≡ l
 in_back pk un p z h [] e = refl
-in_back pk un p z h (none ∷ l) e = ap₂ (λ x r. x ∷ r) z (in_back pk un p z h l e)
-in_back pk un p z h (some a ∷ l) e = ap₂ (λ x r. x ∷ r) (h a (and-fst (p a) (all_in p l) e)) (in_back pk un p z h l (and-snd (p a) (all_in p l) e))
+in_back pk un p z h (None ∷ l) e = ap₂ (λ x r. x ∷ r) z (in_back pk un p z h l e)
+in_back pk un p z h (Some a ∷ l) e = ap₂ (λ x r. x ∷ r) (h a (and-fst (p a) (all_in p l) e)) (in_back pk un p z h l (and-snd (p a) (all_in p l) e))
 
 -- ---- a test of the structs, and one of what they stand for
 module _ {A B : Type 0} where
@@ -73,8 +73,8 @@ module _ {A B : Type 0} where
   unpacked-all p q un h (b ∷ l) e = all_in-more q (un b) (map un l) (h b (and-fst (p b) (all p l) e)) (unpacked-all p q un h l (and-snd (p b) (all p l) e))
 
   -- what has the property P is packed into what passes, and so is what is absent
-  pub packed_all : (P : A → Type 0) (p : B → Bool) (pk : Option A → B) → p (pk none) ≡ true → ((a : A) → P a → p (pk (some a)) ≡ true)
+  pub packed_all : (P : A → Type 0) (p : B → Bool) (pk : Option A → B) → p (pk None) ≡ true → ((a : A) → P a → p (pk (Some a)) ≡ true)
       → (l : Places A) → EveryIn P l → all p (map pk l) ≡ true
   packed_all P p pk z h [] e = refl
-  packed_all P p pk z h (none ∷ l) e = both (p (pk none)) (all p (map pk l)) z (packed_all P p pk z h l e)
-  packed_all P p pk z h (some a ∷ l) e = both (p (pk (some a))) (all p (map pk l)) (h a e.0) (packed_all P p pk z h l e.1)
+  packed_all P p pk z h (None ∷ l) e = both (p (pk None)) (all p (map pk l)) z (packed_all P p pk z h l e)
+  packed_all P p pk z h (Some a ∷ l) e = both (p (pk (Some a))) (all p (map pk l)) (h a e.0) (packed_all P p pk z h l e.1)

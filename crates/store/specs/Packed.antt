@@ -2,7 +2,7 @@
 -- Assumes nothing.
 use Rattle.std.specs.Prelude.{true, false, length, replicate, take}
 use mathlib.Core.List.{List, map, zip_with}
-use Rattle.std.proofs.Math.Option.{Option, none, some}
+use Rattle.std.specs.Prelude.{Option, None, Some}
 use Rattle.model.specs.declared.Class.{Class}
 use Rattle.model.specs.declared.Value.TheVariants.{Blank}
 use Rattle.model.specs.declared.Kind.TheVariants.{Counts}
@@ -55,27 +55,27 @@ no_directory = record { there = false; exist = bottom; class = bottom; tables = 
 
 -- ---- from the model
 unfoldable pub packed_field : Option Field → Field
-packed_field none = no_field
-packed_field (some f) = f
+packed_field None = no_field
+packed_field (Some f) = f
 
 unfoldable pub packed_row : model.Row → Row
 packed_row r = record { exist = r.exist; fields = map packed_field r.fields }
 
 unfoldable pub packed_berth : Option Class → Berth
-packed_berth none = no_berth
-packed_berth (some k) = record { there = true; class = k }
+packed_berth None = no_berth
+packed_berth (Some k) = record { there = true; class = k }
 
 unfoldable pub packed_group : Option Class → Group
-packed_group none = no_group
-packed_group (some k) = record { there = true; exist = k }
+packed_group None = no_group
+packed_group (Some k) = record { there = true; exist = k }
 
 unfoldable pub packed_column : Option model.Column → Column
-packed_column none = no_column
-packed_column (some k) = record { there = true; group = k.group; kind = k.kind; default = k.default }
+packed_column None = no_column
+packed_column (Some k) = record { there = true; group = k.group; kind = k.kind; default = k.default }
 
 unfoldable pub packed_table : Option model.Table → Table
-packed_table none = no_table
-packed_table (some t) =
+packed_table None = no_table
+packed_table (Some t) =
     record {
       there = true;
       class = t.class;
@@ -88,8 +88,8 @@ packed_table (some t) =
     }
 
 unfoldable pub packed_directory : Option model.Directory → Directory
-packed_directory none = no_directory
-packed_directory (some d) = record { there = true; exist = d.exist; class = d.class; tables = map packed_table d.tables }
+packed_directory None = no_directory
+packed_directory (Some d) = record { there = true; exist = d.exist; class = d.class; tables = map packed_table d.tables }
 
 unfoldable pub packed : model.Store → Store
 packed s = record { dirs = map packed_directory s }

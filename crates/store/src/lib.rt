@@ -1,14 +1,17 @@
 // The store by value: nested structs of arrays. A part that may be absent has a mark, `there`; rows stand first to last, as many as the count.
+// The mark is no `Option`, and the count with its array no vector: that an absent part and a row past the count are one constant each is what
+// `Canonical.canonical` tests, and the edits canon/absent_table, canon/rows_past, canon/row_bound, tidy/stray_field and tidy/last_row try just such structs.
+// No type here has an `impl Model`: two structs that stand for one store of the model can differ, and each public function promises its answer on both.
 #![tactic(auto)]
 
-ghost use Rattle.std.specs.Prelude.{◌≡◌, min};
+ghost use Rattle.std.specs.Prelude.{◌≡◌, min, take, drop};
 ghost use Rattle.model.specs.Places.{nones};
 ghost use Rattle.store.specs.Packed.{no_field, no_row, no_berth, no_group, no_column, no_table, no_directory, packed};
 ghost use Rattle.store.specs.Numbered.{table_at, put_table};
 
 use model::{Class, Field, Kind, Value};
 
-// A row: its existence class, and a field for each column, blank where the column is absent.
+// A row: its existence class, and a field for each column, blank where the column is absent. (docs/FORMS.md has arrays of fields make a row, beside the columns.)
 #[derive(Clone, Copy)]
 pub struct Row {
     pub exist: Class,
@@ -22,7 +25,7 @@ pub struct Berth {
     pub class: Class,
 }
 
-// A group is its existence class.
+// A group is its existence class. (A type of its own, so that none can stand for a berth.)
 #[derive(Clone, Copy)]
 pub struct Group {
     pub there: bool,
@@ -51,6 +54,22 @@ pub struct Table {
     pub rows: [Row; 32],
 }
 
+impl Table {
+    // Its rows that are there, oldest first: as many as the count says.
+    pub fn held(&self) -> &[Row]
+        ensures { result.now ≡ take self.now.count self.now.rows }
+    {
+        &self.rows[..small(self.count)]
+    }
+
+    // The rows past the count.
+    pub fn unused(&self) -> &[Row]
+        ensures { result.now ≡ drop self.now.count self.now.rows }
+    {
+        &self.rows[small(self.count)..]
+    }
+}
+
 // A directory: its existence class, its class, and its tables by number.
 #[derive(Clone, Copy)]
 pub struct Directory {
@@ -68,13 +87,15 @@ pub struct Store {
 
 // ---- what stands where nothing is
 
+// The lowest class: level 0, and no mark.
+pub const LOWEST: Class = Class { level: 0, marks: 0 };
+
 // The field of an absent column: of the lowest class, and blank.
 pub fn no_field() -> Field
     ensures { result ≡ no_field }
 {
-    let c = Class { level: 0, marks: 0 };
     Field {
-        class: c,
+        class: LOWEST,
         value: Value::Blank,
     }
 }
@@ -83,11 +104,9 @@ pub fn no_field() -> Field
 pub fn no_row() -> Row
     ensures { result ≡ no_row }
 {
-    let c = Class { level: 0, marks: 0 };
-    let f = no_field();
     Row {
-        exist: c,
-        fields: [f; 8],
+        exist: LOWEST,
+        fields: [no_field(); 8],
     }
 }
 
@@ -97,7 +116,7 @@ pub fn no_berth() -> Berth
 {
     Berth {
         there: false,
-        class: Class { level: 0, marks: 0 },
+        class: LOWEST,
     }
 }
 
@@ -107,7 +126,7 @@ pub fn no_group() -> Group
 {
     Group {
         there: false,
-        exist: Class { level: 0, marks: 0 },
+        exist: LOWEST,
     }
 }
 
@@ -115,12 +134,11 @@ pub fn no_group() -> Group
 pub fn no_column() -> Column
     ensures { result ≡ no_column }
 {
-    let f = no_field();
     Column {
         there: false,
         group: 0,
         kind: Kind::Counts,
-        default: f,
+        default: no_field(),
     }
 }
 
@@ -128,20 +146,15 @@ pub fn no_column() -> Column
 pub fn no_table() -> Table
     ensures { result ≡ no_table }
 {
-    let c = Class { level: 0, marks: 0 };
-    let b = no_berth();
-    let g = no_group();
-    let k = no_column();
-    let r = no_row();
     Table {
         there: false,
-        class: c,
-        max: c,
-        berths: [b; 4],
-        groups: [g; 4],
-        columns: [k; 8],
+        class: LOWEST,
+        max: LOWEST,
+        berths: [no_berth(); 4],
+        groups: [no_group(); 4],
+        columns: [no_column(); 8],
         count: 0,
-        rows: [r; 32],
+        rows: [no_row(); 32],
     }
 }
 
@@ -149,47 +162,46 @@ pub fn no_table() -> Table
 pub fn no_directory() -> Directory
     ensures { result ≡ no_directory }
 {
-    let c = Class { level: 0, marks: 0 };
-    let t = no_table();
     Directory {
         there: false,
-        exist: c,
-        class: c,
-        tables: [t; 2],
+        exist: LOWEST,
+        class: LOWEST,
+        tables: [no_table(); 2],
     }
 }
 
 // The store with nothing in it.
+#[tactic(auto, unfolding(crate::specs::Packed::packed, crate::specs::Packed::packed_directory))]
 pub fn empty_store() -> Store
     ensures { result ≡ packed (nones 4) }
 {
-    let d = no_directory();
-    Store { dirs: [d; 4] }
+    Store {
+        dirs: [no_directory(); 4],
+    }
 }
 
 // ---- parts by number, a directory's taken of 4 and a table's of 2
 
-// The table at a directory's and a table's number.
-pub fn table_at(s: Store, d: usize, t: usize) -> Table
-    ensures { result ≡ table_at s d t }
-{
-    let i = d % 4;
-    let j = t % 2;
-    let dir = s.dirs[i];
-    let q = dir.tables[j];
-    q
+// A table by its number in a directory, and the number of that.
+#[derive(Clone, Copy, Debug, PartialEq, Eq)]
+pub struct TablePlace {
+    pub directory: usize,
+    pub table: usize,
 }
 
-// The store with another table at these numbers.
-pub fn put_table(s: Store, d: usize, t: usize, q: Table) -> Store
-    ensures { result ≡ put_table s d t q }
+// The table at a place.
+pub fn table_at(s: Store, at: TablePlace) -> Table
+    ensures { result ≡ table_at s at.directory at.table }
 {
-    let i = d % 4;
-    let j = t % 2;
-    let mut dir = s.dirs[i];
-    dir.tables[j] = q;
+    s.dirs[at.directory % 4].tables[at.table % 2]
+}
+
+// The store with another table at a place.
+pub fn put_table(s: Store, at: TablePlace, q: Table) -> Store
+    ensures { result ≡ put_table s at.directory at.table q }
+{
     let mut r = s;
-    r.dirs[i] = dir;
+    r.dirs[at.directory % 4].tables[at.table % 2] = q;
     r
 }
 
@@ -197,5 +209,5 @@ pub fn put_table(s: Store, d: usize, t: usize, q: Table) -> Store
 pub fn small(n: usize) -> usize
     ensures { result ≡ min n 32 }
 {
-    if n < 32 { n } else { 32 }
+    n.min(32)
 }

@@ -1,15 +1,20 @@
 -- The fields of a text from a place on: where they end, and how a reader goes on from one to the next.
 -- Assumes nothing.
 use mathlib.Core.Path.{◌∙◌, ◌≡◌, ap, refl, sym}
-use mathlib.Core.Bool.{Bool, false, true}
+use mathlib.Core.Bool.{Bool, cond, false, not, true}
 use mathlib.Core.List.{List, [], ◌∷◌}
-use Prim.Native.Nat.{◌+◌, ◌-◌, ◌<◌, ◌≤◌, suc, ℕ}
-use native.Mathlib.Numerals.{add-one}
+use Prim.Native.Nat.{min, ◌+◌, ◌-◌, ◌<◌, ◌≤◌, suc, ℕ}
+use native.Mathlib.Nat.{le_refl}
+use Rattle.std.proofs.Common.{add-zero}
 use native.Mathlib.Omega.{arith}
-use lib.Dec.{eqb, leb}
-use lib.ListN.{drop, get_or, length, length-drop, take}
-use lib.Seq.{drop-cons, drop-drop}
-use borrow.Author.Tests.{eq-eqb, le-leb, leb-false, leb-true, lt-leb, ne_eqb}
+use lib.Dec.{eqb, leb, ltb}
+use lib.ListN.{drop, drop_of_length-le, length, length-drop, take}
+use lib.Seq.{drop-drop}
+use borrow.Author.Tests.{le-leb, leb-false, leb-true, lt-leb, ltb-false}
+use Rattle.std.specs.List.{position_or_len}
+use Rattle.std.specs.Option.{option_map_or}
+use Rattle.std.specs.Prelude.{None, Some, position}
+use Rattle.std.proofs.lemmas.List.Sums.{prefix_len-le-length}
 use Rattle.model.specs.Lines.{onto, split}
 use Rattle.model.specs.Numbers.{Bytes}
 use Rattle.text.specs.Fields.{behind, end_of, field_at, fields_at, first_of, others_of}
@@ -37,6 +42,16 @@ module _ (b : ℕ) where
     where
       go : (t : Bool) → length (first_of (split b xs)) ≤ length xs → length (first_of (onto t x (split b xs))) ≤ suc (length xs)
       go true ih = omega arith
+      go false ih = rw (first-onto x (split b xs)) (omega arith)
+
+  -- as long as what stands before the first b
+  first_length : (l : Bytes) → length (first_of (split b l)) ≡ position_or_len (λ x. eqb x b) l
+  unfolding split
+  first_length [] = refl
+  first_length (x ∷ xs) = go (eqb x b) (first_length xs)
+    where
+      go : (t : Bool) → length (first_of (split b xs)) ≡ position_or_len (λ x. eqb x b) xs → length (first_of (onto t x (split b xs))) ≡ cond (not t) (1 + position_or_len (λ x. eqb x b) xs) 0
+      go true ih = refl
       go false ih = rw (first-onto x (split b xs)) (omega arith)
 
   -- ---- the fields from a place on: all of them, none, and what stands between
@@ -94,54 +109,70 @@ module _ (b : ℕ) where
         let k : length (first_of (split b (drop at s))) ≤ length s - at = rw (← length-drop at s) (first_le (drop at s)) in
         rw (field_in h) (omega arith)
 
-    -- ---- where it ends
-    pub end_in : at ≤ length s → end_of b s at ≡ at + length (field_at b s at)
+    -- ---- where it ends: so many bytes behind the place, or the text's end, as stand before the first b
+    end_first : end_of b s at ≡ min at (length s) + position_or_len (λ x. eqb x b) (drop (min at (length s)) s)
     unfolding end_of
-    end_in h = omega arith
+    end_first = go (leb at (length s)) refl
+      where
+        go : (t : Bool) → leb at (length s) ≡ t → min at (length s) + length (field_at b s at) ≡ min at (length s) + position_or_len (λ x. eqb x b) (drop (min at (length s)) s)
+        go true e =
+            let h : at ≤ length s = leb-true at (length s) e in
+            let m : min at (length s) ≡ at = omega arith in
+            rw (m, field_in h, first_length (drop at s))
+        go false e =
+            let h : length s < at = leb-false at (length s) e in
+            let m : min at (length s) ≡ length s = omega arith in
+            rw (m, field_end h, drop_of_length-le s (le_refl (length s)))
 
-    pub end_past : length s < at → end_of b s at ≡ length s
+    pub end_place : end_of b s at ≡ option_map_or (λ (n : ℕ). at + n) (position (λ x. eqb x b) (drop at s)) (length s)
+    end_place = go (leb at (length s)) refl
+      where
+        inner : (t : Bool) → at ≤ length s → ltb (position_or_len (λ x. eqb x b) (drop at s)) (length (drop at s)) ≡ t
+            → end_of b s at ≡ option_map_or (λ (n : ℕ). at + n) (cond t (Some (position_or_len (λ x. eqb x b) (drop at s))) None) (length s)
+        inner true h q = let m : min at (length s) ≡ at = omega arith in rw (end_first, m)
+        inner false h q =
+            let m : min at (length s) ≡ at = omega arith in
+            let l : position_or_len (λ x. eqb x b) (drop at s) ≤ length (drop at s) = prefix_len-le-length (λ x. not (eqb x b)) (drop at s) in
+            let g : length (drop at s) ≤ position_or_len (λ x. eqb x b) (drop at s) = ltb-false (position_or_len (λ x. eqb x b) (drop at s)) (length (drop at s)) q in
+            rw (end_first, m) (omega (arith, length-drop at s))
+
+        go : (t : Bool) → leb at (length s) ≡ t → end_of b s at ≡ option_map_or (λ (n : ℕ). at + n) (position (λ x. eqb x b) (drop at s)) (length s)
+        go true e = inner (ltb (position_or_len (λ x. eqb x b) (drop at s)) (length (drop at s))) (leb-true at (length s) e) refl
+        go false e =
+            let h : length s < at = leb-false at (length s) e in
+            let m : min at (length s) ≡ length s = omega arith in
+            let z : drop at s ≡ [] = drop_of_length-le s (omega arith) in
+            let y : drop (length s) s ≡ [] = drop_of_length-le s (le_refl (length s)) in
+            rw (end_first, m, y, z) (add-zero (length s))
+
+    pub end_from : min at (length s) ≤ end_of b s at
     unfolding end_of
-    end_past h = omega (arith, ap length (field_end h))
+    end_from = omega arith
 
-    pub end_le : end_of b s at ≤ length s
-    end_le = go (leb at (length s)) refl
+    pub end_within : end_of b s at ≤ length s
+    unfolding end_of
+    end_within = go (leb at (length s)) refl
       where
-        go : (t : Bool) → leb at (length s) ≡ t → end_of b s at ≤ length s
-        go true e = let h : at ≤ length s = leb-true at (length s) e in omega (arith, end_in h, field_le h)
-        go false e = omega (arith, end_past (leb-false at (length s) e))
+        go : (t : Bool) → leb at (length s) ≡ t → min at (length s) + length (field_at b s at) ≤ length s
+        go true e = let h : at ≤ length s = leb-true at (length s) e in omega (arith, field_le h)
+        go false e = let h : length s < at = leb-false at (length s) e in omega (arith, ap length (field_end h))
 
-    -- the loop that looks for b: it stands here, the text ends
-    pub end-here : at < length s → get_or s at 0 ≡ b → end_of b s at ≡ at
-    end-here h e =
-        let f : first_of (split b (drop at s)) ≡ [] = unfold split in rw (drop-cons s at 0 h, eq-eqb (get_or s at 0) b e) in
-        omega (arith, end_in (omega arith), ap length (field_in (omega arith)), ap length f)
-
-    pub end_off : at ≡ length s → end_of b s at ≡ at
-    end_off h = omega (arith, end_in (omega arith), field_le (omega arith))
-
-    -- ---- the part of the text that it is: e is where it ends
-    pub part_in_lem : (e : ℕ) → e ≡ end_of b s at → at ≤ e → take (e - at) (drop at s) ≡ field_at b s at
-    part_in_lem e q h =
-        let k : at ≤ length s = omega (arith, end_le) in
-        let n : e - at ≡ length (first_of (split b (drop at s))) = omega (arith, end_in k, ap length (field_in k)) in
-        rw n (first_part (drop at s)) ∙ sym (field_in k)
-
-    pub part_past : (e : ℕ) → e ≡ end_of b s at → e < at → take (length s - e) (drop e s) ≡ field_at b s at
-    part_past e q h = go (leb at (length s)) refl
+    -- ---- the part of the text that it is
+    pub part_is : take (end_of b s at - min at (length s)) (drop (min at (length s)) s) ≡ field_at b s at
+    unfolding end_of
+    part_is = go (leb at (length s)) refl
       where
-        go : (t : Bool) → leb at (length s) ≡ t → take (length s - e) (drop e s) ≡ field_at b s at
-        go true x = absurd (omega (arith, end_in (leb-true at (length s) x)))
-        go false x =
-            let k : length s < at = leb-false at (length s) x in
-            let n : length s - e ≡ 0 = omega (arith, end_past k) in
-            rw n (sym (field_end k))
-
-  -- another byte stands here
-  pub end_on : (s : Bytes) (at : ℕ) → at < length s → (get_or s at 0 ≡ b → ⊥) → end_of b s at ≡ end_of b s (at + 1)
-  end_on s at h e =
-      let f : first_of (split b (drop at s)) ≡ get_or s at 0 ∷ first_of (split b (drop (at + 1) s)) =
-      unfold split in rw (drop-cons s at 0 h, ne_eqb (get_or s at 0) b e, add-one) (first-onto (get_or s at 0) (split b (drop (suc at) s))) in
-      omega (arith, end_in s at (omega arith), end_in s (at + 1) (omega arith), ap length (field_in s at (omega arith)), ap length (field_in s (at + 1) (omega arith)), ap length f)
+        go : (t : Bool) → leb at (length s) ≡ t → take (min at (length s) + length (field_at b s at) - min at (length s)) (drop (min at (length s)) s) ≡ field_at b s at
+        go true e =
+            let h : at ≤ length s = leb-true at (length s) e in
+            let m : min at (length s) ≡ at = omega arith in
+            let n : at + length (first_of (split b (drop at s))) - at ≡ length (first_of (split b (drop at s))) = omega arith in
+            rw (m, field_in h, n) (first_part (drop at s))
+        go false e =
+            let h : length s < at = leb-false at (length s) e in
+            let m : min at (length s) ≡ length s = omega arith in
+            let n : length s + 0 - length s ≡ 0 = omega arith in
+            rw (m, field_end h, n)
 
   -- ---- on to the next field: f is the one at `at`, and r the place behind it
   module _ (s : Bytes) (at : ℕ) (f : Bytes) (r : ℕ) (here : f ≡ field_at b s at) (next : r ≡ behind s at (length f)) where

@@ -1,117 +1,85 @@
 // Digits, and the numbers that they write.
 ghost use Rattle.std.specs.Prelude.{◌≡◌, ◌%◌, ◌≤◌};
 ghost use Rattle.model.specs.Numbers.{dec_digit, hex_digit, digit_byte, dec_value, read_dec, read_hex};
-ghost use Rattle.text.specs.Nums.{num_of};
-
-use crate::Num;
 
 // What a byte is as a decimal digit.
-pub fn dec_digit(b: u8) -> Num
-    ensures { num_of result ≡ dec_digit b }
+pub fn dec_digit(b: u8) -> Option<u64>
+    ensures { result ≡ dec_digit b }
 {
-    if b < 48 {
-        return Num::Not;
+    match b {
+        b'0'..=b'9' => Some(u64::from(b - b'0')),
+        _ => None,
     }
-    if b <= 57 {
-        return Num::Is((b - 48) as u64);
-    }
-    Num::Not
 }
 
-// What a byte is as a hex digit.
-pub fn hex_digit(b: u8) -> Num
-    ensures { num_of result ≡ hex_digit b }
+// What a byte is as a hex digit. (`char::to_digit` would take small letters too; with ranges of bytes the two readers of digits stand beside each other as they are.)
+pub fn hex_digit(b: u8) -> Option<u64>
+    ensures { result ≡ hex_digit b }
 {
-    if b < 48 {
-        return Num::Not;
+    match b {
+        b'0'..=b'9' => Some(u64::from(b - b'0')),
+        b'A'..=b'F' => Some(u64::from(b - b'A' + 10)),
+        _ => None,
     }
-    if b <= 57 {
-        return Num::Is((b - 48) as u64);
-    }
-    if b < 65 {
-        return Num::Not;
-    }
-    if b <= 70 {
-        return Num::Is((b - 55) as u64);
-    }
-    Num::Not
 }
 
-// The byte of a number's last hex digit.
+// The byte of a number's last hex digit. (`char::from_digit` gives small letters.)
 pub fn digit_byte(v: u64) -> u8
     ensures { result ≡ digit_byte (v % 16) }
 {
-    let d = v % 16;
-    if d < 10 {
-        return (48 + d) as u8;
+    let d = (v % 16) as u8;
+    match d {
+        0..=9 => b'0' + d,
+        _ => b'A' + (d - 10),
     }
-    (55 + d) as u8
 }
 
 // The number that decimal digits give, at most the limit; there may be zeros in front.
-fn dec_value(s: &[u8], limit: u64) -> Num
-    ensures { num_of result ≡ dec_value limit s.now }
+#[tactic(auto, using(crate::proofs::ReadLaws::num_step, crate::proofs::ReadLaws::num_end, crate::proofs::ReadLaws::over_limit), unfolding(model::specs::Numbers::dec_value))]
+fn dec_value(s: &[u8], limit: u64) -> Option<u64>
+    ensures { result ≡ dec_value limit s.now }
 {
-    let mut acc: u64 = 0;
-    let mut i = 0;
-    while i < s.len() {
-        let Num::Is(d) = dec_digit(s[i]) else {
-            return Num::Not;
-        };
-        // Tested before the sum is made: no limit lets it wrap.
-        if limit < d {
-            return Num::Not;
+    let mut acc = 0u64;
+    for &b in s {
+        let d = dec_digit(b)?;
+        acc = acc.checked_mul(10)?.checked_add(d)?;
+        if limit < acc {
+            return None;
         }
-        if (limit - d) / 10 < acc {
-            return Num::Not;
-        }
-        acc = acc * 10 + d;
-        i += 1;
     }
-    Num::Is(acc)
+    Some(acc)
 }
 
 // A decimal number with no zero in front, at most the limit.
-#[tactic(auto, using(crate::proofs::ReadLaws::front_zero, crate::proofs::ReadLaws::no_front_zero))]
-pub fn read_dec(s: &[u8], limit: u64) -> Num
-    ensures { num_of result ≡ read_dec limit s.now }
+#[tactic(auto, using(crate::proofs::ReadLaws::lead_none, crate::proofs::ReadLaws::lead_one, crate::proofs::ReadLaws::front_zero, crate::proofs::ReadLaws::no_front_zero), unfolding(model::specs::Numbers::read_dec))]
+pub fn read_dec(s: &[u8], limit: u64) -> Option<u64>
+    ensures { result ≡ read_dec limit s.now }
 {
-    let n = s.len();
-    if n == 0 {
-        return Num::Not;
+    match s {
+        [] | [b'0', _, ..] => None,
+        _ => dec_value(s, limit),
     }
-    if n == 1 {
-        return dec_value(s, limit);
-    }
-    if s[0] == 48 {
-        return Num::Not;
-    }
-    dec_value(s, limit)
 }
 
 // The number of exactly n hex digits, as many as a u64 has or fewer.
-pub(crate) fn read_hex(s: &[u8], n: usize) -> Num
+#[tactic(auto, using(crate::proofs::ReadLaws::num_step, crate::proofs::ReadLaws::num_end), unfolding(model::specs::Numbers::read_hex))]
+pub(crate) fn read_hex(s: &[u8], n: usize) -> Option<u64>
     requires { n ≤ 16 }
-    ensures { num_of result ≡ read_hex n s.now }
+    ensures { result ≡ read_hex n s.now }
 {
     if s.len() != n {
-        return Num::Not;
+        return None;
     }
-    let mut acc: u64 = 0;
-    let mut i = 0;
-    while i < s.len() {
-        let Num::Is(d) = hex_digit(s[i]) else {
-            return Num::Not;
-        };
-        acc = acc << 4 | d;
-        i += 1;
+    let mut acc = 0u64;
+    for &b in s {
+        acc = acc << 4 | hex_digit(b)?;
     }
-    Num::Is(acc)
+    Some(acc)
 }
 
-// The number of exactly eight hex digits.
-pub fn read_hex8(s: &[u8]) -> Num
-    ensures { num_of result ≡ read_hex 8 s.now }
+// The number of exactly eight hex digits, which a u32 holds.
+pub fn read_hex8(s: &[u8]) -> Option<u32>
+    ensures { result ≡ read_hex 8 s.now }
 {
-    read_hex(s, 8)
+    Some(read_hex(s, 8)? as u32)
 }

@@ -2,5 +2,6 @@
 pub mod Through
 pub mod PartLaws
 pub mod RowLaws
+pub mod Arrays
 pub mod TableLaws
 pub mod AnswerLaws

@@ -2,8 +2,14 @@
 -- Assumes nothing.
 use mathlib.Core.Path.{◌≡◌, ap₂, refl}
 use mathlib.Core.Bool.{Bool, false, true}
-use mathlib.Core.List.{List, [], ◌∷◌, map, zip_with}
+use mathlib.Core.List.{List, [], ◌++◌, ◌∷◌, map, zip_with}
+use Prim.Native.Nat.{◌+◌, ◌<◌, ℕ}
+use lib.ListN.{get_or, length, take}
+use Rattle.std.proofs.Common.{append-nil}
+use Rattle.std.proofs.lemmas.List.{take_more}
+use Rattle.std.proofs.lemmas.List.Elements.{filter_map-append}
 use Rattle.model.specs.declared.Class.{Class}
+use Rattle.model.specs.Classes.{dominates}
 use Rattle.model.specs.declared.Field.{Field}
 use Rattle.model.specs.Places.{Places, and_then, at, gather, on_places, present}
 use Rattle.model.specs.View.{cut, view_column, view_field, view_fields, view_row}
@@ -47,3 +53,11 @@ module _ (c : Class) (gs : Places Class) where
   rows_seen ks l =
       kept-through (unpacked_row ks) packed_row (sees_row c) (cut c (on_places (view_column gs) (map unpacked_column ks))) (seen_row c (map (kept gs) ks)) (row_seen ks)
       (view_row c (on_places (view_column gs) (map unpacked_column ks))) (λ r. refl) l
+
+-- what is kept of one row more, which is kept or not
+module _ (c : Class) (ks : List Column) (l : List Row) (i : ℕ) (d : Row) (h : i < length l) where
+  pub row_in : dominates c (get_or l i d).exist ≡ true → seen_rows c ks (take (i + 1) l) ≡ seen_rows c ks (take i l) ++ seen_row c ks (get_or l i d) ∷ []
+  row_in e = rw (take_more l i d h, filter_map-append) simp e
+
+  pub row_out : dominates c (get_or l i d).exist ≡ false → seen_rows c ks (take (i + 1) l) ≡ seen_rows c ks (take i l)
+  row_out e = rw (take_more l i d h, filter_map-append) simp (e, append-nil)

@@ -1,33 +1,13 @@
 -- A step of the definition on parts of any type, between their unpacking and their packing.
 -- Assumes nothing.
-use mathlib.Core.Path.{◌∙◌, ◌≡◌, ap, ap₂, refl, sym}
-use mathlib.Core.Bool.{Bool, ◌&&◌, cond, false, true}
+use mathlib.Core.Path.{◌∙◌, ◌≡◌, ap, ap₂, refl}
+use mathlib.Core.Bool.{Bool, false, true}
 use mathlib.Core.List.{List, [], ◌∷◌, map}
-use mathlib.Core.Option.{Option, none, some}
+use Rattle.std.specs.Prelude.{Option, None, Some}
 use Prim.Native.Nat.{suc, zero, ℕ}
 use native.Mathlib.Omega.{arith}
 use lib.ListN.{length}
 use Rattle.model.specs.Places.{Places, and_then, emptied, gather, map_o, nones, on_places, push, when}
-
--- ---- one part, with the mark t that says whether it is there
-module _ {A B C : Type 0} (pk : Option B → C) (g : A → Option B) where
-  pub away : (t : Bool) (a : A) → t ≡ false → pk none ≡ pk (and_then (when t a) g)
-  away t a e = ap (λ (x : Bool). pk (and_then (when x a) g)) (sym e)
-
-  pub there : (t : Bool) (a : A) → t ≡ true → pk (g a) ≡ pk (and_then (when t a) g)
-  there t a e = ap (λ (x : Bool). pk (and_then (when x a) g)) (sym e)
-
--- a part b that stays as it is where it is there and the test p passes: the program's answer to p is r, and to both s
-module _ {A B : Type 0} (pk : Option A → B) (g : A → Option A) where
-  both_pass : (t p : Bool) (a : A) (b : B) → g a ≡ when p a → (t ≡ true → pk (some a) ≡ b) → cond (t && p) b (pk none) ≡ pk (and_then (when t a) g)
-  both_pass true true a b e h = sym (h refl) ∙ sym (ap pk e)
-  both_pass true false a b e h = sym (ap pk e)
-  both_pass false p a b e h = refl
-
-  pub stays : (t p r s : Bool) (a : A) (b : B) → g a ≡ when p a → (t ≡ true → pk (some a) ≡ b) → r ≡ p → (t && r) ≡ s
-      → cond s b (pk none) ≡ pk (and_then (when t a) g)
-  stays t p r s a b e h hr hs =
-      ap (λ (x : Bool). cond x b (pk none)) (sym hs) ∙ ap (λ (x : Bool). cond (t && x) b (pk none)) hr ∙ both_pass t p a b e h
 
 -- ---- an array of parts
 pub through : {A B C D : Type 0} (un : C → Option A) (pk : Option B → D) (g : A → Option B) (l : List C)
@@ -39,16 +19,16 @@ pub emptied-nones : {A C : Type 0} (un : C → Option A) (n : ℕ) (l : List C) 
 emptied-nones un zero [] h = refl
 emptied-nones un zero (x ∷ l) h = absurd (omega arith)
 emptied-nones un (suc n) [] h = absurd (omega arith)
-emptied-nones un (suc n) (x ∷ l) h = ap (λ (r : Places _). none ∷ r) (emptied-nones un n l (omega arith))
+emptied-nones un (suc n) (x ∷ l) h = ap (λ (r : Places _). None ∷ r) (emptied-nones un n l (omega arith))
 
 -- ---- a list of parts, of which some are kept
 when-map : {A B : Type 0} (f : A → B) (p : Bool) (a : A) (b : B) → f a ≡ b → map_o f (when p a) ≡ when p b
-when-map f true a b e = ap some e
+when-map f true a b e = ap Some e
 when-map f false a b e = refl
 
 push-map : {A B : Type 0} (f : A → B) (o : Option A) (l : List A) → map f (push o l) ≡ push (map_o f o) (map f l)
-push-map f none l = refl
-push-map f (some a) l = refl
+push-map f None l = refl
+push-map f (Some a) l = refl
 
 -- each is kept where the test p passes, and f of it is then packed into h of it
 pub kept-through : {A B C D : Type 0} (un : C → A) (pk : B → D) (p : C → Bool) (f : A → B) (h : C → D) → ((x : C) → pk (f (un x)) ≡ h x)

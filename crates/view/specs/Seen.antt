@@ -3,7 +3,7 @@
 -- Assumes nothing.
 use Rattle.std.specs.Prelude.{Bool, cond, length}
 use mathlib.Core.List.{List, [], map, zip_with}
-use Rattle.std.proofs.Math.Option.{some}
+use Rattle.std.specs.Prelude.{Some}
 use Rattle.model.specs.declared.Class.{Class}
 use Rattle.model.specs.declared.Field.{Field}
 use Rattle.model.specs.Places.{and_then, nones}
@@ -19,7 +19,6 @@ use Rattle.store.specs.declared.Column.{Column}
 use Rattle.store.specs.declared.Table.{Table}
 use Rattle.store.specs.declared.Directory.{Directory}
 use Rattle.store.specs.Packed.{no_field, no_row, packed_berth, packed_group, packed_column, packed_table, packed_directory, unpacked_berth, unpacked_group, unpacked_column, unpacked_table, unpacked_directory}
-use Rattle.view.specs.declared.Rows.{Rows}
 
 -- ---- berths, groups, columns
 unfoldable pub seen_berth : Class → Berth → Berth
@@ -45,14 +44,24 @@ sees_row c r = dominates c r.exist
 abbrev pub seen_rows : Class → List Column → List Row → List Row
 seen_rows c ks l = kept_in (sees_row c) (seen_row c ks) l
 
--- rows as they stand in a table
-abbrev pub rows_at : List Row → Rows
-rows_at l = record { count = length l; rows = pad no_row 32 l }
+-- a table that has these rows in place of its own
+abbrev pub with_rows : Table → List Row → Table
+with_rows t l =
+    record {
+      there = t.there;
+      class = t.class;
+      max = t.max;
+      berths = t.berths;
+      groups = t.groups;
+      columns = t.columns;
+      count = length l;
+      rows = pad no_row 32 l;
+    }
 
 -- ---- tables, directories
 -- what is left of a table whose class is not dominated
 unfoldable pub shut_at : Class → Table
-shut_at k = packed_table (some (record { class = k; max = k; berths = nones 4; groups = nones 4; columns = nones 8; rows = [] }))
+shut_at k = packed_table (Some (record { class = k; max = k; berths = nones 4; groups = nones 4; columns = nones 8; rows = [] }))
 
 unfoldable pub seen_table : Class → Table → Table
 seen_table c t = packed_table (and_then (unpacked_table t) (keep_table c))

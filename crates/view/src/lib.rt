@@ -1,131 +1,78 @@
 // The view of a store at a clearance. An absent part is not looked into, nor is one that the clearance does not see.
 #![tactic(auto)]
 
-ghost use Rattle.std.specs.Prelude.{◌≡◌, map, ◌≤◌, take};
-ghost use Rattle.std.proofs.Math.Option.{some};
+ghost use Rattle.std.specs.Prelude.{◌≡◌, Some, map};
 ghost use Rattle.model.specs.Places.{at, present};
 ghost use Rattle.model.specs.View as model;
-ghost use Rattle.store.specs.Packed.{packed, packed_table, table_of, unpacked, unpacked_group};
-ghost use Rattle.view.specs.Seen.{rows_at, seen_berth, seen_column, seen_directory, seen_group, seen_row, seen_rows, seen_table, seen_tables, show_field, shut_at};
+ghost use Rattle.store.specs.Packed.{packed, packed_table, rows_in, table_of, unpacked, unpacked_group};
+ghost use Rattle.view.specs.Seen.{seen_berth, seen_column, seen_directory, seen_group, seen_row, seen_rows, seen_table, seen_tables, show_field, shut_at, with_rows};
 ghost use Rattle.view.specs.Viewing.{viewed_at};
 
 use class::dominates;
 use field::hide_field;
 use model::{Class, Field, Reply};
 use rules::keeps_rules;
+use std::array;
 use store::{
     Berth, Column, Directory, Group, Row, Store, Table, no_berth, no_column, no_directory,
-    no_field, no_group, no_row, no_table, small,
+    no_field, no_group, no_row, no_table,
 };
 
-// What is answered to whoever asks for a view: a reply, and a store.
+// What is answered in place of a view, the error of its `Result`: a reply, and the store as it was found.
 #[derive(Clone, Copy)]
-pub struct Viewed {
+pub struct Refusal {
     pub reply: Reply,
     pub store: Store,
 }
 
-// The rows that are kept, first to last, and how many they are.
-#[derive(Clone, Copy)]
-pub(crate) struct Rows {
-    count: usize,
-    rows: [Row; 32],
-}
-
 // ---- berths, groups and columns
+// The functions of a berth and of a group are a test and two results each: a trait for both types would take an impl for each, longer than both.
 
 // A berth stays where its class is dominated.
+#[tactic(auto, unfolding(crate::specs::Seen::seen_berth, store::specs::Packed::packed_berth, store::specs::Packed::unpacked_berth, model::specs::View::seen))]
 pub(crate) fn view_berth(c: Class, b: Berth) -> Berth
     ensures { result ≡ seen_berth c b }
 {
-    let k = b.class;
-    if b.there & dominates(c, k) {
+    if b.there && dominates(c, b.class) {
         return b;
     }
     no_berth()
 }
 
-// The berths of a table.
-pub(crate) fn view_berths(c: Class, b: [Berth; 4]) -> [Berth; 4]
-    ensures { result ≡ map (seen_berth c) b }
-{
-    let b0 = b[0];
-    let b1 = b[1];
-    let b2 = b[2];
-    let b3 = b[3];
-    let v0 = view_berth(c, b0);
-    let v1 = view_berth(c, b1);
-    let v2 = view_berth(c, b2);
-    let v3 = view_berth(c, b3);
-    [v0, v1, v2, v3]
-}
-
 // A group stays where its existence class is dominated.
+#[tactic(auto, unfolding(crate::specs::Seen::seen_group, store::specs::Packed::packed_group, store::specs::Packed::unpacked_group, model::specs::View::seen))]
 pub(crate) fn view_group(c: Class, g: Group) -> Group
     ensures { result ≡ seen_group c g }
 {
-    let k = g.exist;
-    if g.there & dominates(c, k) {
+    if g.there && dominates(c, g.exist) {
         return g;
     }
     no_group()
 }
 
-// The groups of a table.
-pub(crate) fn view_groups(c: Class, g: [Group; 4]) -> [Group; 4]
-    ensures { result ≡ map (seen_group c) g }
-{
-    let g0 = g[0];
-    let g1 = g[1];
-    let g2 = g[2];
-    let g3 = g[3];
-    let v0 = view_group(c, g0);
-    let v1 = view_group(c, g1);
-    let v2 = view_group(c, g2);
-    let v3 = view_group(c, g3);
-    [v0, v1, v2, v3]
-}
-
 // Whether the group of a number is there.
+#[tactic(auto, using(crate::proofs::PartLaws::group_at, crate::proofs::PartLaws::group_past))]
 pub(crate) fn has_group(gs: [Group; 4], n: u8) -> bool
     ensures { result ≡ present (at n (map unpacked_group gs)) }
 {
-    if 3 < n {
-        return false;
-    }
-    let g = gs[n as usize];
-    g.there
+    gs.get(usize::from(n)).is_some_and(|g| g.there)
 }
 
 // A column stays where its group is among those that are kept.
+#[tactic(auto, unfolding(crate::specs::Seen::seen_column, store::specs::Packed::packed_column, store::specs::Packed::unpacked_column, store::specs::Packed::column_of, model::specs::View::view_column))]
 pub(crate) fn view_column(gs: [Group; 4], k: Column) -> Column
     ensures { result ≡ seen_column gs k }
 {
-    let n = k.group;
-    if k.there & has_group(gs, n) {
+    if k.there && has_group(gs, k.group) {
         return k;
     }
     no_column()
 }
 
-// The columns of a table, under the groups that are kept.
-pub(crate) fn view_columns(gs: [Group; 4], ks: [Column; 8]) -> [Column; 8]
-    ensures { result ≡ map (seen_column gs) ks }
-{
-    let mut q = ks;
-    let mut i: usize = 0;
-    while i < 8 {
-        let k = q[i];
-        let v = view_column(gs, k);
-        q[i] = v;
-        i += 1;
-    }
-    q
-}
-
 // ---- rows
 
 // A field of a kept column, hidden where its class is not dominated; of any other column nothing.
+#[tactic(auto, unfolding(crate::specs::Seen::show_field))]
 pub(crate) fn show_field(c: Class, k: Column, f: Field) -> Field
     ensures { result ≡ show_field c k f }
 {
@@ -139,94 +86,71 @@ pub(crate) fn show_field(c: Class, k: Column, f: Field) -> Field
 pub(crate) fn view_row(c: Class, ks: [Column; 8], r: Row) -> Row
     ensures { result ≡ seen_row c ks r }
 {
-    let mut q = r;
-    let mut i: usize = 0;
-    while i < 8 {
-        let k = ks[i];
-        let f = q.fields[i];
-        let g = show_field(c, k, f);
-        q.fields[i] = g;
-        i += 1;
+    Row {
+        exist: r.exist,
+        fields: array::from_fn(|i| show_field(c, ks[i], r.fields[i])),
     }
-    q
 }
 
-// The rows whose existence class is dominated, of the first n.
-pub(crate) fn keep_rows(c: Class, ks: [Column; 8], rows: [Row; 32], n: usize) -> Rows
-    requires { n ≤ 32 }
-    ensures { result ≡ rows_at (seen_rows c ks (take n rows)) }
+// The table with only those of its rows whose existence class is dominated.
+#[tactic(auto, unfolding(lists::specs::Pad::pad, store::specs::Packed::rows_in))]
+pub(crate) fn keep_rows(c: Class, ks: [Column; 8], t: Table) -> Table
+    ensures { result ≡ with_rows t (seen_rows c ks (rows_in t)) }
 {
-    let e = no_row();
-    let mut out = [e; 32];
-    let mut k: usize = 0;
-    let mut i: usize = 0;
-    while i < n {
-        let r = rows[i];
-        if dominates(c, r.exist) {
-            let h = view_row(c, ks, r);
-            out[k] = h;
-            k += 1;
+    // The rows stay an array with their count beside it: fixed memory, and each row past the count is the one constant.
+    let mut kept = Table {
+        count: 0,
+        rows: [no_row(); 32],
+        ..t
+    };
+    for row in t.held() {
+        if dominates(c, row.exist) {
+            kept.rows[kept.count] = view_row(c, ks, *row);
+            kept.count += 1;
         }
-        i += 1;
     }
-    Rows {
-        count: k,
-        rows: out,
-    }
+    kept
 }
 
 // ---- tables
 
 // A table whose class is dominated.
 pub(crate) fn open_table(c: Class, t: Table) -> Table
-    ensures { result ≡ packed_table (some (model.open_table c (table_of t))) }
+    ensures { result ≡ packed_table (Some (model.open_table c (table_of t))) }
 {
-    let class = t.class;
-    let max = t.max;
-    let bs = t.berths;
-    let gs = t.groups;
-    let ks = t.columns;
-    let rs = t.rows;
-    let berths = view_berths(c, bs);
-    let groups = view_groups(c, gs);
-    let columns = view_columns(groups, ks);
-    let n = small(t.count);
-    let kept = keep_rows(c, columns, rs, n);
-    let rows = kept.rows;
+    let groups = t.groups.map(|g| view_group(c, g));
+    let columns = t.columns.map(|k| view_column(groups, k));
     Table {
         there: true,
-        class,
-        max,
-        berths,
+        berths: t.berths.map(|b| view_berth(c, b)),
         groups,
         columns,
-        count: kept.count,
-        rows,
+        ..keep_rows(c, columns, t)
     }
 }
 
 // What is left of a table whose class is not dominated: its class, the same class again as its maximum, and nothing more.
+#[tactic(auto, unfolding(crate::specs::Seen::shut_at, store::specs::Packed::packed_table, store::specs::Packed::packed_berth, store::specs::Packed::packed_group, store::specs::Packed::packed_column, lists::specs::Pad::pad))]
 pub(crate) fn shut_table(t: Table) -> Table
     ensures { result ≡ shut_at t.class }
 {
-    let class = t.class;
-    let max = t.class;
-    let mut q = no_table();
-    q.there = true;
-    q.class = class;
-    q.max = max;
-    q
+    Table {
+        there: true,
+        class: t.class,
+        max: t.class,
+        ..no_table()
+    }
 }
 
 // A table as a clearance sees it.
+#[tactic(auto, using(crate::proofs::TableLaws::table_shut), unfolding(crate::specs::Seen::seen_table, store::specs::Packed::packed_table, store::specs::Packed::unpacked_table, model::specs::View::view_table, model::specs::View::keep_table, store::specs::Packed::table_of))]
 pub fn view_table(c: Class, t: Table) -> Table
     ensures { result ≡ seen_table c t }
 {
     if !t.there {
         return no_table();
     }
-    let k = t.class;
-    if !dominates(c, k) {
+    if !dominates(c, t.class) {
         return shut_table(t);
     }
     open_table(c, t)
@@ -235,70 +159,49 @@ pub fn view_table(c: Class, t: Table) -> Table
 // ---- directories, the store
 
 // The tables of a kept directory of class k: none where k is not dominated.
-pub(crate) fn view_tables(c: Class, k: Class, t: [Table; 2]) -> [Table; 2]
-    ensures { result ≡ seen_tables c k t }
+#[tactic(auto, using(crate::proofs::TableLaws::tables_none))]
+pub(crate) fn view_tables(c: Class, k: Class, tables: [Table; 2]) -> [Table; 2]
+    ensures { result ≡ seen_tables c k tables }
 {
     if !dominates(c, k) {
-        let e = no_table();
-        return [e; 2];
+        return [no_table(); 2];
     }
-    let t0 = t[0];
-    let t1 = t[1];
-    let v0 = view_table(c, t0);
-    let v1 = view_table(c, t1);
-    [v0, v1]
+    tables.map(|t| view_table(c, t))
 }
 
 // A directory as a clearance sees it.
+#[tactic(auto, unfolding(crate::specs::Seen::seen_directory, crate::specs::Seen::seen_tables, store::specs::Packed::packed_directory, store::specs::Packed::unpacked_directory, store::specs::Packed::directory_of, model::specs::View::view_directory, model::specs::View::cut_directory))]
 pub fn view_directory(c: Class, d: Directory) -> Directory
     ensures { result ≡ seen_directory c d }
 {
-    if !d.there {
-        return no_directory();
+    if d.there && dominates(c, d.exist) {
+        return Directory {
+            tables: view_tables(c, d.class, d.tables),
+            ..d
+        };
     }
-    let exist = d.exist;
-    if !dominates(c, exist) {
-        return no_directory();
-    }
-    let class = d.class;
-    let ts = d.tables;
-    let tables = view_tables(c, class, ts);
-    Directory {
-        there: true,
-        exist,
-        class,
-        tables,
-    }
+    no_directory()
 }
 
 // The store as a clearance sees it.
 pub fn view_store(c: Class, s: Store) -> Store
     ensures { result ≡ packed (model.view c (unpacked s)) }
 {
-    let mut q = s;
-    let mut i: usize = 0;
-    while i < 4 {
-        let d = q.dirs[i];
-        let v = view_directory(c, d);
-        q.dirs[i] = v;
-        i += 1;
+    Store {
+        dirs: s.dirs.map(|d| view_directory(c, d)),
     }
-    q
 }
 
 // The view of a store that keeps the rules; of any other store the reply 21, and the store as it was.
-pub fn view_at(c: Class, s: Store) -> Viewed
+#[tactic(auto, unfolding(crate::specs::Viewing::viewed_at))]
+pub fn view_at(c: Class, s: Store) -> Result<Store, Refusal>
     ensures { result ≡ viewed_at c s }
 {
     if !keeps_rules(s) {
-        return Viewed {
+        return Err(Refusal {
             reply: Reply::RuleBroken,
             store: s,
-        };
+        });
     }
-    let store = view_store(c, s);
-    Viewed {
-        reply: Reply::Done,
-        store,
-    }
+    Ok(view_store(c, s))
 }

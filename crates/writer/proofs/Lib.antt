@@ -1,5 +1,5 @@
 -- Laws by subject.
-pub mod FirstLaws
 pub mod NumberedLaws
+pub mod PartLaws
 pub mod StoreLaws
 pub mod WritingLaws

@@ -1,7 +1,9 @@
 -- The text of a store is that of its structs, part by part.
 -- Assumes nothing.
 use mathlib.Core.Path.{◌∙◌, ◌≡◌, ap, ap₂}
-use mathlib.Core.List.{List, ◌++◌, map}
+use mathlib.Core.Bool.{Bool, cond, false, true}
+use mathlib.Core.List.{List, [], ◌++◌, map}
+use lib.ListN.{take}
 use Prim.Native.Nat.{ℕ}
 use Rattle.model.specs.declared.Class.{Class}
 use Rattle.model.specs.Lines.{ended, flat, unlines}
@@ -65,6 +67,19 @@ module _ (d t : ℕ) where
       ap (λ (x : Bytes). u (table q.class q.max) ++ x)
       (both _ _ bs (gs ++ (cs ++ rs)) (berths q.berths) (both _ _ gs (cs ++ rs) (groups q.groups) (both _ _ cs rs (columns q.columns) (rows q.columns (rows_in q)))))
 
+  pub table_there : (q : Table) → q.there ≡ true
+      → table_text d t q
+      ≡ table_line d t (table q.class q.max)
+      ++ (each (berth_text d t) 0 q.berths ++ (each (group_text d t) 0 q.groups ++ (each (column_text d t) 0 q.columns ++ flat (row_text d t q.columns) (take q.count q.rows))))
+  unfolding table_text rows_in
+  table_there q e = ap (λ (b : Bool). cond b (table_lines d t q) []) e ∙ table_lines_lem q
+
+  pub table_absent : (q : Table) → q.there ≡ false → table_text d t q ≡ []
+  unfolding table_text
+  table_absent q e = ap (λ (b : Bool). cond b (table_lines d t q) []) e
+
+pub ruleset tables = (table_there, table_absent)
+
 -- ---- a directory: its own line, then its tables
 pub directory_lines_lem : (d : ℕ) (x : Directory) → directory_lines d x ≡ line_in d (directory x.exist x.class) ++ each (table_text d) 0 x.tables
 unfolding directory_lines directory_records directory_of unpacked_table table_text table_lines table_line line_in
@@ -73,6 +88,16 @@ directory_lines_lem d x =
     (flat_map (line_in d) inside (numbered table_records (map unpacked_table x.tables))
     ∙ numbered-each table_records unpacked_table (table_text d) (λ (y : ℕ × TablePart). line_in d (inside y)) x.tables
     (λ t q. text_if (table_line d t) table_records q.there (table_of q)))
+
+pub directory_there : (d : ℕ) (x : Directory) → x.there ≡ true → directory_text d x ≡ line_in d (directory x.exist x.class) ++ each (table_text d) 0 x.tables
+unfolding directory_text
+directory_there d x e = ap (λ (b : Bool). cond b (directory_lines d x) []) e ∙ directory_lines_lem d x
+
+pub directory_absent : (d : ℕ) (x : Directory) → x.there ≡ false → directory_text d x ≡ []
+unfolding directory_text
+directory_absent d x e = ap (λ (b : Bool). cond b (directory_lines d x) []) e
+
+pub ruleset directories = (directory_there, directory_absent)
 
 -- ---- the store
 pub store_text_lem : (s : Store) → store_text 8 (unpacked s) ≡ each directory_text 0 s.dirs

@@ -1,18 +1,19 @@
 -- What the writers of a sheet leave.
 -- Assumes nothing.
-use Rattle.std.specs.Prelude.{Bool, cond, ◌&&◌}
-use Rattle.model.specs.declared.Reply.TheVariants.{RuleBroken}
+use Rattle.std.specs.Prelude.{Bool, cond, ◌&&◌, ℕ, Result, Ok, Err}
+use Rattle.model.specs.declared.Reply.{Reply}
+use Rattle.model.specs.declared.Reply.TheVariants.{Done, RuleBroken}
 use Rattle.model.specs.Numbers.{Bytes}
 use Rattle.model.specs.Rooms.{Wrote, unwritten, writing}
 use Rattle.model.specs.Sheets.{Heading, may_stand}
 use Rattle.store.specs.declared.Store.{Store}
 use Rattle.store.specs.Packed.{unpacked}
 use Rattle.store.specs.Canonical.{canonical}
-use Rattle.writer.specs.declared.Written.{Written}
 
--- an answer, with the room at exit
-abbrev pub wrote_of : Written → Bytes → Wrote
-wrote_of r room = record { reply = r.reply; length = r.length; room = room }
+-- an answer, with the room at exit: how many bytes were written, or the reply that refuses
+abbrev pub wrote_of : Result ℕ Reply → Bytes → Wrote
+wrote_of (Ok n) room = record { reply = Done; length = n; room = room }
+wrote_of (Err r) room = record { reply = r; length = 0; room = room }
 
 -- the structs stand for a store, which may stand under the heading
 unfoldable pub may_write : Heading → Store → Bool

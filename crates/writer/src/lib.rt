@@ -1,212 +1,152 @@
 // A store written as a sheet into a room.
 #![tactic(auto)]
 
-ghost use Rattle.std.specs.Prelude.{◌≡◌, take};
+ghost use Rattle.std.specs.Prelude.{◌≡◌, OnErr};
 ghost use Rattle.model.specs.Lines.{flat};
 ghost use Rattle.model.specs.Rooms.{put_into};
 ghost use Rattle.model.specs.Sheets.{sheet_text};
-ghost use Rattle.room.specs.Writing.{Wrote, each};
+ghost use Rattle.room.specs.Writing.{Writes, Wrote, each};
 ghost use Rattle.store.specs.Packed.{unpacked};
 ghost use Rattle.entries.specs.Lines.{heading_of, berth_text, group_text, column_text, row_text};
-ghost use Rattle.writer.specs.Texts.{table_lines, table_text, directory_lines, directory_text};
+ghost use Rattle.writer.specs.Texts.{table_text, directory_text};
 ghost use Rattle.writer.specs.Writing.{may_write, writing_of, wrote_of};
 
 use entries::{
-    Heading, put_berth, put_column, put_directory_line, put_group, put_heading, put_row,
-    put_table_line,
+    Heading, put_column, put_directory_line, put_heading, put_part, put_row, put_table_line,
 };
 use model::Reply;
-use room::put_byte;
+use room::Pen;
 use rules::{keeps_rules, keeps_sheet};
-use store::{Berth, Column, Directory, Group, Row, Store, Table, small};
-
-// What a writer says: its reply, and how many bytes it wrote.
-#[derive(Clone, Copy)]
-pub struct Written {
-    pub reply: Reply,
-    pub length: usize,
-}
+use store::{Berth, Column, Directory, Group, Row, Store, Table, TablePlace};
 
 // ---- the parts of a table, those that are there
+// These loops, and those over tables and directories, are a call each. One function for all would take that call as a closure, with clauses on what the closure
+// does to the pen at each part, and be longer than the five.
 
 // Its berths.
-fn put_berths(room: &mut [u8], at: usize, d: usize, t: usize, berths: [Berth; 4]) -> usize
-    ensures { Wrote room.old at (each (berth_text d t) 0 berths) result room.new }
+#[tactic(auto, using(room::proofs::PenLaws::writes, crate::proofs::PartLaws::parts))]
+fn put_berths(pen: &mut Pen, at: TablePlace, berths: &[Berth])
+    ensures { Writes pen.old (each (berth_text at.directory at.table) 0 berths.now) pen.new }
 {
-    let mut p = at;
-    let mut i = 0;
-    while i < 4 {
-        let b = berths[i];
-        p = put_berth(room, p, d, t, i, b);
-        i += 1;
+    for (n, b) in berths.iter().enumerate() {
+        put_part(pen, b'B', at, n, b.there.then_some(b.class));
     }
-    p
 }
 
 // Its groups.
-fn put_groups(room: &mut [u8], at: usize, d: usize, t: usize, groups: [Group; 4]) -> usize
-    ensures { Wrote room.old at (each (group_text d t) 0 groups) result room.new }
+#[tactic(auto, using(room::proofs::PenLaws::writes, crate::proofs::PartLaws::parts))]
+fn put_groups(pen: &mut Pen, at: TablePlace, groups: &[Group])
+    ensures { Writes pen.old (each (group_text at.directory at.table) 0 groups.now) pen.new }
 {
-    let mut p = at;
-    let mut i = 0;
-    while i < 4 {
-        let g = groups[i];
-        p = put_group(room, p, d, t, i, g);
-        i += 1;
+    for (n, g) in groups.iter().enumerate() {
+        put_part(pen, b'G', at, n, g.there.then_some(g.exist));
     }
-    p
 }
 
 // Its columns.
-fn put_columns(room: &mut [u8], at: usize, d: usize, t: usize, columns: [Column; 8]) -> usize
-    ensures { Wrote room.old at (each (column_text d t) 0 columns) result room.new }
+#[tactic(auto, using(room::proofs::PenLaws::writes, crate::proofs::PartLaws::parts))]
+fn put_columns(pen: &mut Pen, at: TablePlace, columns: &[Column])
+    ensures { Writes pen.old (each (column_text at.directory at.table) 0 columns.now) pen.new }
 {
-    let mut p = at;
-    let mut i = 0;
-    while i < 8 {
-        let c = columns[i];
-        p = put_column(room, p, d, t, i, c);
-        i += 1;
+    for (n, c) in columns.iter().enumerate() {
+        put_column(pen, at, n, c);
     }
-    p
 }
 
-// Its rows, as many as the count says.
-fn put_rows(
-    room: &mut [u8],
-    at: usize,
-    d: usize,
-    t: usize,
-    columns: [Column; 8],
-    rows: [Row; 32],
-    count: usize,
-) -> usize
-    ensures { Wrote room.old at (flat (row_text d t columns) (take count rows)) result room.new }
+// Its rows.
+#[tactic(auto, using(room::proofs::PenLaws::writes, crate::proofs::PartLaws::parts))]
+fn put_rows(pen: &mut Pen, at: TablePlace, columns: &[Column], rows: &[Row])
+    ensures { Writes pen.old (flat (row_text at.directory at.table columns.now) rows.now) pen.new }
 {
-    let n = small(count);
-    let mut p = at;
-    let mut i = 0;
-    while i < n {
-        let row = rows[i];
-        p = put_row(room, p, d, t, columns, row);
-        i += 1;
+    for row in rows {
+        put_row(pen, at, columns, row);
     }
-    p
 }
 
 // ---- tables
 
-// A table: its own line, then its parts.
-fn put_table_lines(room: &mut [u8], at: usize, d: usize, t: usize, q: Table) -> usize
-    ensures { Wrote room.old at (table_lines d t q) result room.new }
-{
-    let class = q.class;
-    let max = q.max;
-    let berths = q.berths;
-    let groups = q.groups;
-    let columns = q.columns;
-    let rows = q.rows;
-    let count = q.count;
-    let u = put_table_line(room, at, d, t, class, max);
-    let v = put_berths(room, u, d, t, berths);
-    let w = put_groups(room, v, d, t, groups);
-    let x = put_columns(room, w, d, t, columns);
-    put_rows(room, x, d, t, columns, rows, count)
-}
-
-// The table at a number, if it is there.
-fn put_table(room: &mut [u8], at: usize, d: usize, t: usize, q: Table) -> usize
-    ensures { Wrote room.old at (table_text d t q) result room.new }
+// The table at a number, if it is there: its own line, then its parts.
+#[tactic(auto, using(room::proofs::PenLaws::writes, crate::proofs::StoreLaws::tables))]
+fn put_table(pen: &mut Pen, at: TablePlace, q: &Table)
+    ensures { Writes pen.old (table_text at.directory at.table q.now) pen.new }
 {
     if q.there {
-        return put_table_lines(room, at, d, t, q);
+        put_table_line(pen, at, q.class, q.max);
+        put_berths(pen, at, &q.berths);
+        put_groups(pen, at, &q.groups);
+        put_columns(pen, at, &q.columns);
+        put_rows(pen, at, &q.columns, q.held());
     }
-    at
 }
 
 // The tables of a directory.
-fn put_tables(room: &mut [u8], at: usize, d: usize, tables: [Table; 2]) -> usize
-    ensures { Wrote room.old at (each (table_text d) 0 tables) result room.new }
+#[tactic(auto, using(room::proofs::PenLaws::writes, crate::proofs::PartLaws::parts))]
+fn put_tables(pen: &mut Pen, directory: usize, tables: &[Table])
+    ensures { Writes pen.old (each (table_text directory) 0 tables.now) pen.new }
 {
-    let mut p = at;
-    let mut i = 0;
-    while i < 2 {
-        let q = tables[i];
-        p = put_table(room, p, d, i, q);
-        i += 1;
+    for (table, q) in tables.iter().enumerate() {
+        put_table(pen, TablePlace { directory, table }, q);
     }
-    p
 }
 
 // ---- directories
 
-// A directory: its own line, then its tables.
-fn put_directory_lines(room: &mut [u8], at: usize, d: usize, x: Directory) -> usize
-    ensures { Wrote room.old at (directory_lines d x) result room.new }
-{
-    let exist = x.exist;
-    let class = x.class;
-    let tables = x.tables;
-    let p = put_directory_line(room, at, d, exist, class);
-    put_tables(room, p, d, tables)
-}
-
-// The directory at a number, if it is there.
-fn put_directory(room: &mut [u8], at: usize, d: usize, x: Directory) -> usize
-    ensures { Wrote room.old at (directory_text d x) result room.new }
+// The directory at a number, if it is there: its own line, then its tables.
+#[tactic(auto, using(room::proofs::PenLaws::writes, crate::proofs::StoreLaws::directories))]
+fn put_directory(pen: &mut Pen, d: usize, x: &Directory)
+    ensures { Writes pen.old (directory_text d x.now) pen.new }
 {
     if x.there {
-        return put_directory_lines(room, at, d, x);
+        put_directory_line(pen, d, x.exist, x.class);
+        put_tables(pen, d, &x.tables);
     }
-    at
 }
 
 // The directories of a store.
-fn put_directories(room: &mut [u8], at: usize, dirs: [Directory; 4]) -> usize
-    ensures { Wrote room.old at (each directory_text 0 dirs) result room.new }
+#[tactic(auto, using(room::proofs::PenLaws::writes, crate::proofs::PartLaws::parts))]
+fn put_directories(pen: &mut Pen, dirs: &[Directory])
+    ensures { Writes pen.old (each directory_text 0 dirs.now) pen.new }
 {
-    let mut p = at;
-    let mut i = 0;
-    while i < 4 {
-        let x = dirs[i];
-        p = put_directory(room, p, i, x);
-        i += 1;
+    for (d, x) in dirs.iter().enumerate() {
+        put_directory(pen, d, x);
     }
-    p
 }
 
 // ---- sheets
+// A heading and a store stay two parameters: they are no pair that anyone keeps, since a caller writes one store under either heading.
 
 // A sheet: the heading's line, then the store's.
-pub fn put_sheet(room: &mut [u8], at: usize, heading: Heading, s: Store) -> usize
-    ensures { Wrote room.old at (sheet_text 8 (heading_of heading) (unpacked s)) result room.new }
+#[tactic(auto, using(room::proofs::PenLaws::writes, crate::proofs::StoreLaws::store_text_lem), unfolding(model::specs::Sheets::sheet_text))]
+pub fn put_sheet(pen: &mut Pen, heading: Heading, s: &Store)
+    ensures { Writes pen.old (sheet_text 8 (heading_of heading) (unpacked s.now)) pen.new }
 {
-    let dirs = s.dirs;
-    let p = put_heading(room, at, heading);
-    let q = put_byte(room, p, b'\n');
-    put_directories(room, q, dirs)
+    put_heading(pen, heading);
+    pen.byte(b'\n');
+    put_directories(pen, &s.dirs);
 }
 
-// A sheet from the room's start, or 14 where the room is too short. It is measured first, in a room of no bytes.
-pub fn write_text(room: &mut [u8], heading: Heading, s: Store) -> Written
-    ensures { wrote_of result room.new ≡ put_into room.old (sheet_text 8 (heading_of heading) (unpacked s)) }
+// A sheet from the room's start, as far as the room goes, and how many bytes it has.
+#[tactic(auto, unfolding(room::specs::Writing::Writes))]
+fn put_from_start(room: &mut [u8], heading: Heading, s: &Store) -> usize
+    ensures { Wrote room.old 0 (sheet_text 8 (heading_of heading) (unpacked s.now)) result room.new }
 {
-    let mut none = [0u8; 0];
-    let n = put_sheet(&mut none, 0, heading, s);
-    if room.len() < n {
-        return Written {
-            reply: Reply::RoomShort,
-            length: 0,
-        };
-    }
-    let length = put_sheet(room, 0, heading, s);
-    Written {
-        reply: Reply::Done,
-        length,
-    }
+    let mut pen = Pen::new(room, 0);
+    put_sheet(&mut pen, heading, s);
+    pen.place()
 }
 
-// Whether a store may be written under a heading: a view may have hidden fields, a sheet none.
+// A sheet from the room's start, and how many bytes it has, or 14 where the room is too short. It is measured first, in a room of no bytes.
+pub fn write_text(room: &mut [u8], heading: Heading, s: Store) -> Result<usize, Reply>
+    ensures answer { wrote_of result room.new ≡ put_into room.old (sheet_text 8 (heading_of heading) (unpacked s)) }
+    ensures err { OnErr result (room.new ≡ room.old) }
+{
+    if room.len() < put_from_start(&mut [], heading, &s) {
+        return Err(Reply::RoomShort);
+    }
+    Ok(put_from_start(room, heading, &s))
+}
+
+// Whether a store may be written under a heading: a view may have hidden fields, a sheet none. (A match, as in `entries::put_heading`.)
 pub fn may_write(heading: Heading, s: Store) -> bool
     ensures { result ≡ may_write (heading_of heading) s }
 {
@@ -217,14 +157,12 @@ pub fn may_write(heading: Heading, s: Store) -> bool
 }
 
 // A sheet from the room's start, or 21 where the store does not keep the rules, and then 14 where the room is too short.
-pub fn write_sheet(room: &mut [u8], heading: Heading, s: Store) -> Written
-    ensures { wrote_of result room.new ≡ writing_of (heading_of heading) s room.old }
+pub fn write_sheet(room: &mut [u8], heading: Heading, s: Store) -> Result<usize, Reply>
+    ensures answer { wrote_of result room.new ≡ writing_of (heading_of heading) s room.old }
+    ensures err { OnErr result (room.new ≡ room.old) }
 {
-    if may_write(heading, s) {
-        return write_text(room, heading, s);
+    if !may_write(heading, s) {
+        return Err(Reply::RuleBroken);
     }
-    Written {
-        reply: Reply::RuleBroken,
-        length: 0,
-    }
+    write_text(room, heading, s)
 }

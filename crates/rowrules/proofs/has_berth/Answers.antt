@@ -1,24 +1,17 @@
--- A class is that of one of four berths: the four tests are those of the list.
+-- The chain over the berths tests each, as the list of what they stand for has it.
 -- Assumes nothing.
-use mathlib.Core.Path.{◌∙◌, ◌≡◌, ap}
-use mathlib.Core.Bool.{◌||◌}
-use mathlib.Core.List.{List, map}
-use lib.ListN.{get_or, length}
-use Rattle.model.specs.Places.{any, sure}
+use Rattle.std.proofs.Common.{rules, tests, ◌∙◌}
+use Rattle.std.proofs.lemmas.Iterator.{YieldsList-from_slice}
+use Rattle.std.proofs.lemmas.Iterator.Search.{any_from_yields_List}
+use Rattle.model.specs.Places.{sure}
 use Rattle.model.specs.Classes.{same}
-use Rattle.lists.proofs.Loops.{elements}
-use Rattle.store.specs.declared.Berth.{Berth}
-use Rattle.store.specs.Packed.{no_berth, unpacked_berth}
-use Rattle.rowrules.proofs.RowLaws.{or-false}
-use borrow.Author.Rules.{rules}
+use Rattle.store.specs.Packed.{unpacked_berth}
+use Rattle.rowrules.proofs.PartLaws.{any_map}
 use Rattle.rowrules.proofs.has_berth.Goals as goal
 
 pub returns : goal.returns
 returns c =
-    let s = c in
-    let l = s.args.l in
-    let h : length l ≡ 4 = search (rules, s.well_formed) in
-    let p = sure (same s.args.c) in
-    (λ i. c.is_berth.ensures i
-    || (c.is_berth-2.ensures i || (c.is_berth-3.ensures i || (c.is_berth-4.ensures ∙ or-false (p (unpacked_berth (get_or l 3 no_berth)))) i)))
-    ∙ ap (λ (x : List Berth). any p (map unpacked_berth x)) (elements l no_berth 4 h)
+    let a = c.args in
+    let p = sure (same a.c) in
+    any_from_yields_List (λ b. p (unpacked_berth b)) c.any.new.self _ _ c.any.ensures.ran (YieldsList-from_slice a.l cc) (λ x b q k. search (rules, tests))
+    ∙ any_map p unpacked_berth a.l

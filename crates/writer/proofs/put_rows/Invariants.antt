@@ -1,15 +1,10 @@
--- What is left of the rows is left to be written.
+-- The first ones are written.
 -- Assumes nothing.
-use mathlib.Core.Path.{◌≡◌}
-use Prim.Native.Nat.{◌-◌, ◌≤◌}
-use lib.ListN.{drop, length, take}
+use Rattle.std.proofs.Common.{take}
 use Rattle.model.specs.Lines.{flat}
-use Rattle.room.proofs.RoomLaws.{Left}
+use Rattle.room.specs.Writing.{Writes}
 use Rattle.entries.specs.Lines.{row_text}
 use Rattle.writer.proofs.put_rows.Given as goal
 
-abbrev pub invariant-loop-i : goal.invariant-loop-i
-invariant-loop-i l = (l.i ≤ l.n) × (l.n ≤ 32) × (length l.rows ≡ 32) × Left l.initial.room l.at (flat (row_text l.d l.t l.columns) (take l.count l.rows)) l.p l.room (flat (row_text l.d l.t l.columns) (drop l.i (take l.n l.rows)))
-
-abbrev pub decreases-loop-i : goal.decreases-loop-i
-decreases-loop-i l = l.n - l.i
+abbrev pub invariant-loop-row : goal.invariant-loop-row
+invariant-loop-row l = Writes l.initial.pen (flat (row_text l.at.directory l.at.table l.columns) (take l.row-index l.rows)) l.pen
