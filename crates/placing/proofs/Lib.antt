@@ -1,0 +1,4 @@
+-- Laws by subject.
+mod RowLaws
+pub mod TableLaws
+pub mod SpreadLaws
