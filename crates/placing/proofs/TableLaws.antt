@@ -20,10 +20,10 @@ use Rattle.store.specs.Packed.{no_row, packed_berth, packed_column, packed_field
 use Rattle.placing.specs.Tables.{berth_fits, berth_set, column_fits, column_set, group_fits, group_set}
 
 -- ---- numbers
-below_more : (n : ℕ) → ltb 0 (suc n) ≡ true
+pub below_more : (n : ℕ) → ltb 0 (suc n) ≡ true
 below_more n = grind (arith, nat_tests)
 
-below_next : (n m : ℕ) → ltb (suc n) (suc m) ≡ ltb n m
+pub below_next : (n m : ℕ) → ltb (suc n) (suc m) ≡ ltb n m
 below_next n m = leb-suc-suc (suc n) m
 
 -- ---- places

@@ -1,3 +1,4 @@
 pub mod Tables
 pub mod Stores
 pub mod Rows
+pub mod Cut
