@@ -48,7 +48,7 @@ fn group_fits(t: &Table, n: usize) -> bool
     n < 4 && none_there(&t.groups[n..]) && none_there(&t.columns) && t.count == 0
 }
 
-// A group at a number, where it may come; else the table stays as it was.
+// A group at a number, where it may come; else the table stays as it was. (As `set_berth`, of another type and with other parts behind it.)
 #[tactic(auto, unfolding(crate::specs::Tables::group_set, crate::specs::Tables::group_fits))]
 pub fn set_group(t: &mut Table, n: usize, exist: Class) -> Option<()>
     ensures { Sets (group_set n exist) t.old result t.new }
@@ -160,7 +160,7 @@ fn table_may(d: &Directory, t: usize) -> bool
     d.there && t < 2 && none_there(&tables[t..])
 }
 
-// Whether a table may come at a place: at its number in the directory, and no directory stands behind that.
+// Whether a table may come at a place: at its number in the directory, and no directory stands behind that. (As `is_last`, with another question to the directory.)
 #[tactic(auto, unfolding(crate::specs::Stores::table_fits))]
 fn table_fits(s: &Store, at: TablePlace) -> bool
     ensures { result ≡ table_fits at.directory at.table s.now }
