@@ -18,12 +18,12 @@ pub trait Part: Copy {
     ghost away: { Self → Bool };
 
     // Whether it is tidy: what it holds is ours, and it is the constant where it is absent.
-    fn is_tidy(self) -> bool
-        ensures { result ≡ tidy self };
+    fn is_tidy(&self) -> bool
+        ensures { result ≡ tidy self.now };
 
     // Whether it is absent.
-    fn is_away(self) -> bool
-        ensures { result ≡ away self };
+    fn is_away(&self) -> bool
+        ensures { result ≡ away self.now };
 }
 
 // Whether each part is tidy.
@@ -49,11 +49,11 @@ impl Part for Berth {
     ghost away = { berth_away };
 
     #[tactic(auto, unfolding(store::specs::Canonical::berth_tidy))]
-    fn is_tidy(self) -> bool {
+    fn is_tidy(&self) -> bool {
         class_sound(self.class) && (self.there || is_bottom(self.class))
     }
 
-    fn is_away(self) -> bool {
+    fn is_away(&self) -> bool {
         !self.there
     }
 }
@@ -65,11 +65,11 @@ impl Part for Group {
     ghost away = { group_away };
 
     #[tactic(auto, unfolding(store::specs::Canonical::group_tidy))]
-    fn is_tidy(self) -> bool {
+    fn is_tidy(&self) -> bool {
         class_sound(self.exist) && (self.there || is_bottom(self.exist))
     }
 
-    fn is_away(self) -> bool {
+    fn is_away(&self) -> bool {
         !self.there
     }
 }
@@ -80,11 +80,11 @@ impl Part for Column {
 
     ghost away = { column_away };
 
-    fn is_tidy(self) -> bool {
-        column_tidy(self)
+    fn is_tidy(&self) -> bool {
+        column_tidy(*self)
     }
 
-    fn is_away(self) -> bool {
+    fn is_away(&self) -> bool {
         !self.there
     }
 }
@@ -93,8 +93,8 @@ impl Part for Column {
 
 // Whether a tidy table holds what the constant does: the lowest class and maximum, and nothing else.
 #[tactic(auto, unfolding(store::specs::Canonical::table_empty))]
-pub(crate) fn table_empty(t: Table) -> bool
-    ensures { result ≡ conj (table_empty t) }
+pub(crate) fn table_empty(t: &Table) -> bool
+    ensures { result ≡ conj (table_empty t.now) }
 {
     is_bottom(t.class)
         && is_bottom(t.max)
@@ -104,26 +104,33 @@ pub(crate) fn table_empty(t: Table) -> bool
         && t.count == 0
 }
 
-// A table is tidy if its parts are, no row past the count holds anything, and it is the constant where it is absent.
+// Whether a table is tidy: its parts are, no row past the count holds anything, and it is the constant where it is absent.
+// (By value: the lengths of its arrays are known then.)
+#[tactic(auto, unfolding(store::specs::Canonical::table_tidy, store::specs::Canonical::table_parts, store::specs::Canonical::table_lengths, store::specs::Packed::rows_in))]
+pub(crate) fn table_tidy(t: Table) -> bool
+    ensures { result ≡ table_tidy t }
+{
+    class_sound(t.class)
+        && class_sound(t.max)
+        && all_tidy(&t.berths)
+        && all_tidy(&t.groups)
+        && all_tidy(&t.columns)
+        && t.count <= 32
+        && rows_tidy(t.columns, t.held())
+        && rows_empty(t.unused())
+        && (t.there || table_empty(&t))
+}
+
 impl Part for Table {
     ghost tidy = { table_tidy };
 
     ghost away = { table_away };
 
-    #[tactic(auto, unfolding(store::specs::Canonical::table_tidy, store::specs::Canonical::table_parts, store::specs::Canonical::table_lengths, store::specs::Packed::rows_in))]
-    fn is_tidy(self) -> bool {
-        class_sound(self.class)
-            && class_sound(self.max)
-            && all_tidy(&self.berths)
-            && all_tidy(&self.groups)
-            && all_tidy(&self.columns)
-            && self.count <= 32
-            && rows_tidy(self.columns, self.held())
-            && rows_empty(self.unused())
-            && (self.there || table_empty(self))
+    fn is_tidy(&self) -> bool {
+        table_tidy(*self)
     }
 
-    fn is_away(self) -> bool {
+    fn is_away(&self) -> bool {
         !self.there
     }
 }
@@ -132,8 +139,8 @@ impl Part for Table {
 
 // Whether a tidy directory holds what the constant does: the lowest classes, and no table.
 #[tactic(auto, unfolding(store::specs::Canonical::directory_empty))]
-pub(crate) fn directory_empty(d: Directory) -> bool
-    ensures { result ≡ conj (directory_empty d) }
+pub(crate) fn directory_empty(d: &Directory) -> bool
+    ensures { result ≡ conj (directory_empty d.now) }
 {
     is_bottom(d.exist) && is_bottom(d.class) && none_there(&d.tables)
 }
@@ -145,14 +152,14 @@ impl Part for Directory {
     ghost away = { λ d. not d.there };
 
     #[tactic(auto, unfolding(store::specs::Canonical::directory_tidy, store::specs::Canonical::directory_parts))]
-    fn is_tidy(self) -> bool {
+    fn is_tidy(&self) -> bool {
         class_sound(self.exist)
             && class_sound(self.class)
             && all_tidy(&self.tables)
             && (self.there || directory_empty(self))
     }
 
-    fn is_away(self) -> bool {
+    fn is_away(&self) -> bool {
         !self.there
     }
 }

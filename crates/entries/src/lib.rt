@@ -7,7 +7,7 @@ ghost use Rattle.model.specs.Records as records;
 ghost use Rattle.model.specs.Sheets.{heading_text};
 ghost use Rattle.model.specs.Values.{kind_letter};
 ghost use Rattle.room.specs.Writing.{Writes};
-ghost use Rattle.entries.specs.Lines.{heading_of, line_in, table_line, column_text, fields_text, row_text, head_text, part_if};
+ghost use Rattle.entries.specs.Lines.{heading_of, line_in, table_line, berth_text, group_text, column_text, fields_text, row_text, head_text, part_if};
 ghost use Rattle.store.specs.Packed.{column_of};
 
 use class::texts::put_tab_class;
@@ -15,7 +15,7 @@ use field::kind_letter;
 use field::texts::put_field;
 use model::{Class, Field, Kind};
 use room::Pen;
-use store::{Column, Row, TablePlace};
+use store::{Berth, Column, Group, Row, TablePlace};
 
 // The first line of a sheet: of a whole store, or of a view.
 #[derive(Clone, Copy)]
@@ -103,6 +103,22 @@ pub fn put_part(pen: &mut Pen, letter: u8, at: TablePlace, n: usize, class: Opti
         put_tab_class(pen, k);
         pen.byte(b'\n');
     }
+}
+
+// The line of the berth at a number, if it is there.
+#[tactic(auto, using(crate::proofs::SlotLaws::berth_is))]
+pub fn put_berth(pen: &mut Pen, at: TablePlace, n: usize, b: Berth)
+    ensures { Writes pen.old (berth_text at.directory at.table n b) pen.new }
+{
+    put_part(pen, b'B', at, n, b.there.then_some(b.class));
+}
+
+// The line of the group at a number, if it is there.
+#[tactic(auto, using(crate::proofs::SlotLaws::group_is))]
+pub fn put_group(pen: &mut Pen, at: TablePlace, n: usize, g: Group)
+    ensures { Writes pen.old (group_text at.directory at.table n g) pen.new }
+{
+    put_part(pen, b'G', at, n, g.there.then_some(g.exist));
 }
 
 // ---- columns

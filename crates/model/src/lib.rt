@@ -2,8 +2,9 @@
 // reply into its number, by which it is shown.
 #![tactic(auto)]
 
-ghost use Rattle.std.specs.Prelude.{◌≡◌};
+ghost use Rattle.std.specs.Prelude.{◌≡◌, Some};
 ghost use Rattle.std.specs.Option.{ok_or};
+ghost use Rattle.std.specs.Fmt.{decimal};
 ghost use Rattle.model.specs.Forms.{pick};
 ghost use Rattle.model.specs.Replies.{number};
 ghost use Rattle.model.specs.Texts.{kinds};
@@ -132,8 +133,10 @@ impl From<Reply> for u8 {
     }
 }
 
-// A reply is shown by its number.
+// A reply is shown by its number, in decimal.
 impl fmt::Display for Reply {
+    ghost output = { λ r. Some (decimal (number r)) };
+
     fn fmt<W: fmt::Write>(&self, f: &mut fmt::Formatter<W>) -> fmt::Result {
         write!(f, "{}", u8::from(*self))
     }

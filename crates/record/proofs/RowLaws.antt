@@ -2,7 +2,7 @@
 -- Assumes nothing.
 use mathlib.Core.Path.{◌∙◌, ◌≡◌, ap, refl, sym}
 use mathlib.Core.List.{List, [], ◌++◌, ◌∷◌, append_assoc, append-nil}
-use Rattle.std.proofs.Common.{inl, inr}
+use Rattle.std.proofs.Common.{false, inl, inr, rules, true}
 use Rattle.std.specs.Prelude.{◌⊎◌, Option, None, Some, slice_set}
 use Prim.Native.Nat.{◌+◌, ◌<◌, ◌≤◌, ℕ}
 use native.Mathlib.Numerals.{add-one}
@@ -73,11 +73,11 @@ map_alike : {A B : Type 0} (f g : A → B) → ((a : A) → f a ≡ g a) → (o 
 map_alike f g h None = refl
 map_alike f g h (Some a) = ap Some (h a)
 
--- ---- the loop: X is what all the fields are read as. The first n places hold those that were read, and each of them one, or no more can be read
+-- ---- the loop: X is what all the fields are read as. The first n places hold those that were read, and each of them one, or nothing is left
 pub record Going (X : Option (List Field)) (fs : List (Option Field)) (n : ℕ) (l : List Bytes) : Type 0 where
   pub room : length fs ≡ 8
   pub so_far : X ≡ map_o (λ (r : List Field). leading (take n fs) ++ r) (read_fields 8 l)
-  pub each : (length (leading (take n fs)) ≡ n) ⊎ (both_by (class 8) (value 8) l ≡ None)
+  pub each : (length (leading (take n fs)) ≡ n) ⊎ (l ≡ [])
 
 -- none yet
 pub row_starts : (fs : List (Option Field)) (l : List Bytes) → length fs ≡ 8 → Going (read_fields 8 l) fs 0 l
@@ -112,17 +112,30 @@ module _ (X : Option (List Field)) (fs : List (Option Field)) (n : ℕ) where
         more : (r : List Field) → added (f ∷ r) ≡ leading (take (n + 1) (set fs n (Some f))) ++ r
         more r = rw place-some (sym (append_assoc (leading (take n fs)) (f ∷ []) r))
 
-  pub row_goes : (old new : Reader) (o : Option Field) → Going X fs n (left old) → n < 8 → Takes (both_by (class 8) (value 8)) old (map_o of_field o) new → Going X (slice_set fs n o) (n + 1) (left new)
-  row_goes old new None k h e =
-      let same : left new ≡ left old = ap left e.2 in
-      record { room = simp length-set k.room; so_far = rw (place-none (omega arith), same) k.so_far; each = inr (rw same (sym e.0)) }
-  row_goes old new (Some f) k h e = go k.each
+  pub row_goes : (old new : Reader) (o : Option Field) (f : Field) → Going X fs n (left old) → n < 8 → o ≡ Some f → Takes (both_by (class 8) (value 8)) old (map_o of_field o) new → Going X (slice_set fs n (Some f)) (n + 1) (left new)
+  row_goes old new o f k h z t = go k.each
     where
-      go : (length (leading (take n fs)) ≡ n) ⊎ (both_by (class 8) (value 8) (left old) ≡ None) → Going X (slice_set fs n (Some f)) (n + 1) (left new)
+      e : Some ((f.class, f.value), left new) ≡ both_by (class 8) (value 8) (left old)
+      e = ap (λ (o : Option Field). map_o (λ (a : Class × Value). (a, left new)) (map_o of_field o)) (sym z) ∙ t.0
+
+      go : (length (leading (take n fs)) ≡ n) ⊎ (left old ≡ []) → Going X (slice_set fs n (Some f)) (n + 1) (left new)
       go (inl p) =
           let i : n < length fs = omega (arith, k.room) in
-          record { room = simp length-set k.room; so_far = goes_on f i p (left old) (left new) k.so_far e.0; each = inl (rw (place-some f i p) (simp length-append (omega arith))) }
-      go (inr p) = nothing_is (sym p ∙ sym e.0)
+          record { room = simp length-set k.room; so_far = goes_on f i p (left old) (left new) k.so_far e; each = inl (rw (place-some f i p) (simp length-append (omega arith))) }
+      go (inr p) = nothing_is (sym (ap (both_by (class 8) (value 8)) p) ∙ sym e)
+
+  -- where nothing is left, the place stays empty
+  pub row_rests : (l : List Bytes) → Going X fs n l → n < 8 → none_left l ≡ true → Going X (slice_set fs n None) (n + 1) l
+  row_rests [] k h e = record { room = simp length-set k.room; so_far = rw (place-none (omega (arith, k.room))) k.so_far; each = inr refl }
+  row_rests (x ∷ l) k h e = absurd (search rules)
+
+  -- where something is left that can't be read, nothing is read
+  pub row_breaks : (old new : Reader) (o : Option Field) → Going X fs n (left old) → none_left (left old) ≡ false → o ≡ None → Takes (both_by (class 8) (value 8)) old (map_o of_field o) new → None ≡ and_then X eight
+  row_breaks old new o k e z t = go (left old) k e (ap (λ (o : Option Field). map_o (λ (a : Class × Value). (a, left new)) (map_o of_field o)) (sym z) ∙ t.0)
+    where
+      go : (l : List Bytes) → Going X fs n l → none_left l ≡ false → None ≡ both_by (class 8) (value 8) l → None ≡ and_then X eight
+      go [] k e z = absurd (search rules)
+      go (x ∷ l) k e z = sym (ap (λ (q : Option (List Field)). and_then q eight) (k.so_far ∙ ap (map_o added) (some_by x l ∙ ap (λ (o : Step (Class × Value)). and_then o onwards) (sym z))))
 
   -- all places have been come to, and nothing is left
   pub row_ends : (l : List Bytes) (u : Unit {0}) → Going X fs n l → n ≡ 8 → Some u ≡ when (none_left l) (tt {0}) → Some (leading fs) ≡ and_then X eight
@@ -154,6 +167,6 @@ module _ (X : Option (List Field)) (fs : List (Option Field)) (n : ℕ) where
           wide p f (read_fields 8 y.1)
           ∙ sym (ap (λ (q : Option (List Field)). and_then q eight) (to (Some y) e ∙ map-twice added (λ (r : List Field). f ∷ r) (read_fields 8 y.1)))
 
-      go : (length (leading (take n fs)) ≡ n) ⊎ (both_by (class 8) (value 8) (x ∷ l) ≡ None) → None ≡ and_then X eight
+      go : (length (leading (take n fs)) ≡ n) ⊎ (x ∷ l ≡ []) → None ≡ and_then X eight
       go (inl p) = full (omega arith) (both_by (class 8) (value 8) (x ∷ l)) refl
-      go (inr p) = sym (ap (λ (q : Option (List Field)). and_then q eight) (to None p))
+      go (inr p) = absurd (search rules)

@@ -126,14 +126,18 @@ fn read_column(mut line: Reader) -> Option<Record>
     })
 }
 
-// The fields that are left of a line, up to eight.
+// The fields that are left of a line, up to eight. (Behind the last, and behind what is no field, nothing is read again.)
 #[tactic(auto, using(crate::proofs::RowLaws::row_starts, crate::proofs::RowLaws::row_stops))]
 fn read_fields(mut rest: Reader) -> Option<[Option<Field>; 8]>
     ensures { map_o leading result ≡ and_then (read_fields 8 (left rest.entry)) eight }
 {
     let mut fields = [None; 8];
     for place in &mut fields {
-        *place = rest.field();
+        *place = if rest.is_done() {
+            None
+        } else {
+            Some(rest.field()?)
+        };
     }
     rest.end()?;
     Some(fields)

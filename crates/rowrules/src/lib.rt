@@ -10,6 +10,7 @@ ghost use Rattle.lists.specs.Folds.{count_in};
 ghost use Rattle.store.specs.Packed.{unpacked_berth, unpacked_column, unpacked_field};
 ghost use Rattle.rowrules.specs.Kept.{field_kept, field_shown, of_berth, room_in, room_kept, row_kept, row_shown};
 
+use class::same_class;
 use field::{fits_kind, is_hidden};
 use model::{Class, Field};
 use store::{Berth, Column, Row};
@@ -17,11 +18,11 @@ use store::{Berth, Column, Row};
 // ---- the berth of a row
 
 // Whether a berth is there and is of a class.
-#[tactic(auto, unfolding(model::specs::Classes::same, store::specs::Packed::unpacked_berth))]
+#[tactic(auto, unfolding(store::specs::Packed::unpacked_berth))]
 pub(crate) fn is_berth(c: Class, b: Berth) -> bool
     ensures { result ≡ sure (order.same c) (unpacked_berth b) }
 {
-    b.there && c == b.class
+    b.there && same_class(c, b.class)
 }
 
 // Whether one of the berths is of a class.
@@ -71,7 +72,7 @@ pub fn rows_ok(bs: [Berth; 4], ks: [Column; 8], rows: &[Row]) -> bool
 pub(crate) fn in_berth(c: Class, rows: &[Row]) -> usize
     ensures { result ≡ count_in (of_berth c) rows.now }
 {
-    rows.iter().filter(|r| r.exist == c).count()
+    rows.iter().filter(|r| same_class(r.exist, c)).count()
 }
 
 // Whether a berth has at most 8 rows.

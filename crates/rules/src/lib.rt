@@ -9,7 +9,7 @@ ghost use Rattle.rules.specs.Kept.{alike, berth_kept, column_kept, directory_kep
 ghost use Rattle.rules.specs.Ours.{ours, ours_plain};
 
 use canon::canonical_store;
-use class::dominates;
+use class::{dominates, same_class};
 use field::fits_kind;
 use model::Class;
 use rowrules::{rooms_ok, rows_ok, rows_plain};
@@ -33,11 +33,11 @@ pub(crate) fn berths_ok(class: Class, max: Class, l: [Berth; 4]) -> bool
 }
 
 // Whether two berths are there and are of one class.
-#[tactic(auto, unfolding(model::specs::Rules::same_berth, model::specs::Classes::same, store::specs::Packed::unpacked_berth))]
+#[tactic(auto, unfolding(model::specs::Rules::same_berth, store::specs::Packed::unpacked_berth))]
 pub(crate) fn same_berth(a: Berth, b: Berth) -> bool
     ensures { result ≡ alike a b }
 {
-    a.there && b.there && a.class == b.class
+    a.there && b.there && same_class(a.class, b.class)
 }
 
 // Whether one of some berths is there and of the class of a given one.
@@ -92,12 +92,12 @@ pub(crate) trait Ruled: Copy {
     ghost shown: { Self → Bool };
 
     // Whether it is absent, or keeps the rules.
-    fn is_ok(self) -> bool
-        ensures { result ≡ kept self };
+    fn is_ok(&self) -> bool
+        ensures { result ≡ kept self.now };
 
     // Whether it is absent, or no field of its rows is hidden.
-    fn is_plain(self) -> bool
-        ensures { result ≡ shown self };
+    fn is_plain(&self) -> bool
+        ensures { result ≡ shown self.now };
 }
 
 // Whether each part is absent, or keeps the rules.
@@ -114,25 +114,32 @@ pub(crate) fn all_plain<T: Ruled>(parts: &[T]) -> bool
     parts.iter().all(|p| p.is_plain())
 }
 
+// Whether a table is absent, or its berths, columns and rows keep the rules. (By value: the lengths of its arrays are known then.)
+#[tactic(auto, using(crate::proofs::TableLaws::table_ruled), unfolding(store::specs::Packed::rows_in))]
+pub(crate) fn table_ok(t: Table) -> bool
+    ensures { result ≡ table_kept t }
+{
+    !t.there
+        || (dominates(t.max, t.class)
+            && berths_ok(t.class, t.max, t.berths)
+            && !berths_twice(&t.berths)
+            && columns_ok(t.groups, t.columns)
+            && rows_ok(t.berths, t.columns, t.held())
+            && rooms_ok(t.held(), t.berths))
+}
+
 // A table keeps the rules if its berths, columns and rows do.
 impl Ruled for Table {
     ghost kept = { table_kept };
 
     ghost shown = { table_shown };
 
-    #[tactic(auto, using(crate::proofs::TableLaws::table_ruled), unfolding(store::specs::Packed::rows_in))]
-    fn is_ok(self) -> bool {
-        !self.there
-            || (dominates(self.max, self.class)
-                && berths_ok(self.class, self.max, self.berths)
-                && !berths_twice(&self.berths)
-                && columns_ok(self.groups, self.columns)
-                && rows_ok(self.berths, self.columns, self.held())
-                && rooms_ok(self.held(), self.berths))
+    fn is_ok(&self) -> bool {
+        table_ok(*self)
     }
 
     #[tactic(auto, using(crate::proofs::TableLaws::table_shown_is), unfolding(store::specs::Packed::rows_in))]
-    fn is_plain(self) -> bool {
+    fn is_plain(&self) -> bool {
         !self.there || rows_plain(self.columns, self.held())
     }
 }
@@ -144,12 +151,12 @@ impl Ruled for Directory {
     ghost shown = { directory_shown };
 
     #[tactic(auto, using(crate::proofs::TableLaws::directory_ruled))]
-    fn is_ok(self) -> bool {
+    fn is_ok(&self) -> bool {
         !self.there || all_ok(&self.tables)
     }
 
     #[tactic(auto, using(crate::proofs::TableLaws::directory_shown_is))]
-    fn is_plain(self) -> bool {
+    fn is_plain(&self) -> bool {
         !self.there || all_plain(&self.tables)
     }
 }

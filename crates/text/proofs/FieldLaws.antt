@@ -19,6 +19,20 @@ use Rattle.model.specs.Lines.{onto, split}
 use Rattle.model.specs.Numbers.{Bytes}
 use Rattle.text.specs.Fields.{behind, end_of, field_at, fields_at, first_of, others_of}
 
+-- ---- what stands from a place on, the place as near as the text's end
+pub drop_near : (s : Bytes) (n : ℕ) → drop (min n (length s)) s ≡ drop n s
+drop_near s n = go (leb n (length s)) refl
+  where
+    go : (t : Bool) → leb n (length s) ≡ t → drop (min n (length s)) s ≡ drop n s
+    go true e =
+        let h : n ≤ length s = leb-true n (length s) e in
+        let m : min n (length s) ≡ n = omega arith in
+        rw m
+    go false e =
+        let h : length s < n = leb-false n (length s) e in
+        let m : min n (length s) ≡ length s = omega arith in
+        rw m (drop_of_length-le s (le_refl (length s)) ∙ sym (drop_of_length-le s (omega arith)))
+
 -- ---- the first stretch of a text
 first-onto : (x : ℕ) (ls : List Bytes) → first_of (onto false x ls) ≡ x ∷ first_of ls
 first-onto x [] = refl

@@ -3,11 +3,19 @@ ghost use Rattle.std.specs.Prelude.{◌≡◌, drop, nat_eq, position};
 ghost use Rattle.model.specs.Lines.{is_text};
 ghost use Rattle.text.specs.Fields.{field_at, end_of, behind};
 
-// How far behind `from` the first b stands, if there is one.
+// Where the first b stands, if there is one.
+fn first(s: &[u8], b: u8) -> Option<usize>
+    ensures { result ≡ position (λ x. nat_eq x b) s.now }
+{
+    s.iter().position(|&x| x == b)
+}
+
+// How far behind `from` the first b stands, if there is one. (By the slice from there on: `skip` would step over each byte before it.)
+#[tactic(auto, using(crate::proofs::FieldLaws::drop_near))]
 fn ahead(s: &[u8], from: usize, b: u8) -> Option<usize>
     ensures { result ≡ position (λ x. nat_eq x b) (drop from s.now) }
 {
-    s.iter().skip(from).position(|&x| x == b)
+    first(&s[from.min(s.len())..], b)
 }
 
 // The first place from `from` on where b stands, or the text's end.

@@ -8,7 +8,7 @@ ghost use Rattle.lists.specs.Folds.{all_pairs};
 ghost use Rattle.store.specs.Packed.{bottom};
 ghost use Rattle.store.specs.Canonical.{field_empty, column_empty, column_tidy, field_tidy, row_tidy, row_empty};
 
-use class::class_sound;
+use class::{class_sound, same_class};
 use field::{field_sound, same_value};
 use model::{Class, Field, Kind, Value};
 use store::{Column, LOWEST, Row};
@@ -16,11 +16,10 @@ use store::{Column, LOWEST, Row};
 // ---- fields
 
 // Whether a class is the lowest.
-#[tactic(auto, unfolding(model::specs::Classes::same))]
 pub fn is_bottom(k: Class) -> bool
     ensures { result ≡ order.same k bottom }
 {
-    k == LOWEST
+    same_class(k, LOWEST)
 }
 
 // Whether a field is the constant: of the lowest class, and blank.

@@ -147,7 +147,8 @@ fn full_table(nine: bool) -> Table {
     }
 }
 
-// The full store: open directories, one whose class few see, and one that few see at all.
+// The full store: open directories, one whose class few see, and one that few see at all. (Not inlined: what it is made of leaves the stack with it.)
+#[inline(never)]
 fn full(nine: bool) -> Store {
     let high = class(3, 15);
     let tables = [full_table(nine); 2];
@@ -243,11 +244,10 @@ impl fmt::Display for Tally {
 
 // What a clearance sees of a store.
 fn look(rt: &impl Print, c: Class, s: &Store) -> io::Result<()> {
-    let (reply, seen) = match view_at(c, *s) {
-        Ok(seen) => (Reply::Done, seen),
-        Err(refusal) => (refusal.reply, refusal.store),
+    let (reply, tally) = match view_at(c, *s) {
+        Ok(seen) => (Reply::Done, Tally::of(&seen)),
+        Err(refusal) => (refusal.reply, Tally::of(&refusal.store)),
     };
-    let tally = Tally::of(&seen);
     println!(rt; "  at {}{:08x} {reply}: {tally}", c.level, c.marks)
 }
 
@@ -271,13 +271,19 @@ fn show(rt: &impl Print, name: &str, s: &Store) -> io::Result<()> {
     Ok(())
 }
 
+// The full store. (Not inlined: it lies on the stack only while it is shown.)
+#[inline(never)]
+fn show_full(rt: &impl Print, name: &str, nine: bool) -> io::Result<()> {
+    show(rt, name, &full(nine))
+}
+
 fn main(rt: HostRuntime) -> io::Result<()> {
     let whole = example(2);
     show(&rt, "the example", &whole)?;
     if let Ok(seen) = view_at(class(1, 1), whole) {
         show(&rt, "its view at 1 00000001", &seen)?;
     }
-    show(&rt, "a full store", &full(false))?;
-    show(&rt, "nine rows in a berth", &full(true))?;
+    show_full(&rt, "a full store", false)?;
+    show_full(&rt, "nine rows in a berth", true)?;
     show(&rt, "a row behind the count", &example(1))
 }

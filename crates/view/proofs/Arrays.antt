@@ -1,16 +1,16 @@
--- What an array is that `map` made of another, `from_fn` of two others by their numbers, or a loop of the rows that it keeps.
+-- What an array is that `map` made of another, `from_fn` of two others by their numbers, or a loop of its elements or of the rows that it keeps.
 -- Assumes nothing.
-use mathlib.Core.Path.{◌∙◌, ◌≡◌, ap, subst, sym}
-use mathlib.Core.List.{List, [], ◌++◌, ◌∷◌, map, zip_with}
-use Prim.Native.Nat.{◌+◌, ◌-◌, ◌<◌, suc, zero, ℕ}
+use mathlib.Core.Path.{◌∙◌, ◌≡◌, ap, refl, subst, sym}
+use mathlib.Core.List.{List, [], ◌++◌, ◌∷◌, append-nil, map, zip_with}
+use Prim.Native.Nat.{◌+◌, ◌-◌, ◌<◌, ◌≤◌, suc, zero, ℕ}
 use native.Mathlib.Omega.{arith}
-use lib.ListN.{drop, drop_of_length-le, get_or, length, replicate, set}
+use lib.ListN.{drop, drop_of_length-le, get_or, length, length-set, replicate, set, take}
 use denote.Param.Members.{Mut}
 use Rattle.std.specs.Fn.{Called}
 use Rattle.std.specs.Array.{IsFromFnResult, IsFromFnResultFrom, IsMapOf, MapsFrom}
 use Rattle.std.proofs.Common.{append_assoc, length-append}
 use Rattle.std.proofs.Math.Seq.{set-append_seam}
-use Rattle.std.proofs.lemmas.List.{drop_more}
+use Rattle.std.proofs.lemmas.List.{drop-set-lt, drop_more, take_all, take_more_set}
 use Rattle.lists.specs.Pad.{pad}
 
 -- a function that gives h of each element, and stays as it is, gives h of all
@@ -45,6 +45,25 @@ module _ {F A B C : Type 0} {g : Mut F (ℕ × Unit {0}) C} (h : A → B → C) 
 
     pub all_paired : {zs : List C} {n : ℕ} → length xs ≡ n → length ys ≡ n → IsFromFnResult g f zs n → zs ≡ zip_with h xs ys
     all_paired {zs} {n} a b m = others zs 0 n (omega arith) (omega arith) (omega (arith, m.long)) m.each
+
+-- a loop puts h of each element in its place: the first i are done
+module _ {A : Type 0} (h : A → A) (xs : List A) where
+  pub record Turned (l : List A) (i : ℕ) : Type 0 where
+    pub long : length l ≡ length xs
+    pub so_far : map h xs ≡ take i l ++ map h (drop i l)
+
+  pub turned_first : Turned xs 0
+  turned_first = record { long = refl; so_far = refl }
+
+  pub turned_next : (l : List A) (i : ℕ) (y d : A) → i < length l → y ≡ h (get_or l i d) → Turned l i → Turned (set l i y) (i + 1)
+  turned_next l i y d k e t =
+      let tail : map h (drop i l) ≡ y ∷ map h (drop (i + 1) l) = rw (drop_more l i d k, e) refl in
+      let more : take i l ++ (y ∷ map h (drop (i + 1) l)) ≡ take (i + 1) (set l i y) ++ map h (drop (i + 1) (set l i y)) =
+      rw (take_more_set l i y k, drop-set-lt (i + 1) l i y (omega arith)) (sym (append_assoc (take i l) (y ∷ []) (map h (drop (i + 1) l)))) in
+      record { long = simp length-set t.long; so_far = t.so_far ∙ ap (λ (r : List A). take i l ++ r) tail ∙ more }
+
+  pub turned_last : (l : List A) (i : ℕ) → length l ≤ i → Turned l i → l ≡ map h xs
+  turned_last l i k t = sym (t.so_far ∙ rw (take_all i l k, drop_of_length-le l {i = i} k) (append-nil l))
 
 -- a list that is filled up, and grows by one
 pub pad_more : {A : Type 0} (d : A) (n : ℕ) (l : List A) (x : A) → length l < n → set (pad d n l) (length l) x ≡ pad d n (l ++ x ∷ [])

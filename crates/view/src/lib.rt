@@ -39,6 +39,17 @@ pub(crate) fn view_berth(c: Class, b: Berth) -> Berth
     no_berth()
 }
 
+// The berths of a table.
+pub(crate) fn view_berths(c: Class, berths: [Berth; 4]) -> [Berth; 4]
+    ensures { result ≡ map (seen_berth c) berths }
+{
+    let mut seen = berths;
+    for b in &mut seen {
+        *b = view_berth(c, *b);
+    }
+    seen
+}
+
 // A group stays where its existence class is dominated.
 #[tactic(auto, unfolding(crate::specs::Seen::seen_group, store::specs::Packed::packed_group, store::specs::Packed::unpacked_group, model::specs::View::seen))]
 pub(crate) fn view_group(c: Class, g: Group) -> Group
@@ -48,6 +59,17 @@ pub(crate) fn view_group(c: Class, g: Group) -> Group
         return g;
     }
     no_group()
+}
+
+// The groups of a table.
+pub(crate) fn view_groups(c: Class, groups: [Group; 4]) -> [Group; 4]
+    ensures { result ≡ map (seen_group c) groups }
+{
+    let mut seen = groups;
+    for g in &mut seen {
+        *g = view_group(c, *g);
+    }
+    seen
 }
 
 // Whether the group of a number is there.
@@ -67,6 +89,17 @@ pub(crate) fn view_column(gs: [Group; 4], k: Column) -> Column
         return k;
     }
     no_column()
+}
+
+// The columns of a table, under the groups that are kept.
+pub(crate) fn view_columns(groups: [Group; 4], columns: [Column; 8]) -> [Column; 8]
+    ensures { result ≡ map (seen_column groups) columns }
+{
+    let mut seen = columns;
+    for k in &mut seen {
+        *k = view_column(groups, *k);
+    }
+    seen
 }
 
 // ---- rows
@@ -92,24 +125,20 @@ pub(crate) fn view_row(c: Class, ks: [Column; 8], r: Row) -> Row
     }
 }
 
-// The table with only those of its rows whose existence class is dominated.
+// Those rows of a table whose existence class is dominated, in place of another's rows and under its columns.
 #[tactic(auto, unfolding(lists::specs::Pad::pad, store::specs::Packed::rows_in))]
-pub(crate) fn keep_rows(c: Class, ks: [Column; 8], t: Table) -> Table
-    ensures { result ≡ with_rows t (seen_rows c ks (rows_in t)) }
+pub(crate) fn keep_rows(c: Class, t: Table, kept: &mut Table)
+    ensures { kept.new ≡ with_rows kept.old (seen_rows c kept.old.columns (rows_in t)) }
 {
     // The rows stay an array with their count beside it: fixed memory, and each row past the count is the one constant.
-    let mut kept = Table {
-        count: 0,
-        rows: [no_row(); 32],
-        ..t
-    };
+    kept.count = 0;
+    kept.rows = [no_row(); 32];
     for row in t.held() {
         if dominates(c, row.exist) {
-            kept.rows[kept.count] = view_row(c, ks, *row);
+            kept.rows[kept.count] = view_row(c, kept.columns, *row);
             kept.count += 1;
         }
     }
-    kept
 }
 
 // ---- tables
@@ -118,15 +147,13 @@ pub(crate) fn keep_rows(c: Class, ks: [Column; 8], t: Table) -> Table
 pub(crate) fn open_table(c: Class, t: Table) -> Table
     ensures { result ≡ packed_table (Some (model.open_table c (table_of t))) }
 {
-    let groups = t.groups.map(|g| view_group(c, g));
-    let columns = t.columns.map(|k| view_column(groups, k));
-    Table {
-        there: true,
-        berths: t.berths.map(|b| view_berth(c, b)),
-        groups,
-        columns,
-        ..keep_rows(c, columns, t)
-    }
+    let mut seen = t;
+    seen.there = true;
+    seen.berths = view_berths(c, t.berths);
+    seen.groups = view_groups(c, t.groups);
+    seen.columns = view_columns(seen.groups, t.columns);
+    keep_rows(c, t, &mut seen);
+    seen
 }
 
 // What is left of a table whose class is not dominated: its class, the same class again as its maximum, and nothing more.
@@ -166,7 +193,11 @@ pub(crate) fn view_tables(c: Class, k: Class, tables: [Table; 2]) -> [Table; 2]
     if !dominates(c, k) {
         return [no_table(); 2];
     }
-    tables.map(|t| view_table(c, t))
+    let mut seen = tables;
+    for t in &mut seen {
+        *t = view_table(c, *t);
+    }
+    seen
 }
 
 // A directory as a clearance sees it.
@@ -175,10 +206,9 @@ pub fn view_directory(c: Class, d: Directory) -> Directory
     ensures { result ≡ seen_directory c d }
 {
     if d.there && dominates(c, d.exist) {
-        return Directory {
-            tables: view_tables(c, d.class, d.tables),
-            ..d
-        };
+        let mut seen = d;
+        seen.tables = view_tables(c, d.class, d.tables);
+        return seen;
     }
     no_directory()
 }
@@ -187,9 +217,11 @@ pub fn view_directory(c: Class, d: Directory) -> Directory
 pub fn view_store(c: Class, s: Store) -> Store
     ensures { result ≡ packed (model.view c (unpacked s)) }
 {
-    Store {
-        dirs: s.dirs.map(|d| view_directory(c, d)),
+    let mut seen = s;
+    for d in &mut seen.dirs {
+        *d = view_directory(c, *d);
     }
+    seen
 }
 
 // The view of a store that keeps the rules; of any other store the reply 21, and the store as it was.

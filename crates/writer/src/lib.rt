@@ -12,7 +12,8 @@ ghost use Rattle.writer.specs.Texts.{table_text, directory_text};
 ghost use Rattle.writer.specs.Writing.{may_write, writing_of, wrote_of};
 
 use entries::{
-    Heading, put_column, put_directory_line, put_heading, put_part, put_row, put_table_line,
+    Heading, put_berth, put_column, put_directory_line, put_group, put_heading, put_row,
+    put_table_line,
 };
 use model::Reply;
 use room::Pen;
@@ -29,7 +30,7 @@ fn put_berths(pen: &mut Pen, at: TablePlace, berths: &[Berth])
     ensures { Writes pen.old (each (berth_text at.directory at.table) 0 berths.now) pen.new }
 {
     for (n, b) in berths.iter().enumerate() {
-        put_part(pen, b'B', at, n, b.there.then_some(b.class));
+        put_berth(pen, at, n, *b);
     }
 }
 
@@ -39,7 +40,7 @@ fn put_groups(pen: &mut Pen, at: TablePlace, groups: &[Group])
     ensures { Writes pen.old (each (group_text at.directory at.table) 0 groups.now) pen.new }
 {
     for (n, g) in groups.iter().enumerate() {
-        put_part(pen, b'G', at, n, g.there.then_some(g.exist));
+        put_group(pen, at, n, *g);
     }
 }
 

@@ -16,9 +16,9 @@ loop-row-preserved c =
     let rows = c.held-row-items.result.now in
     elim c.if-dominates.branch [
       | then-dominates w ↦
-          (let e = row_in a.c a.ks rows l.row-index _ c.loop-row-test.true (sym c.dominates.ensures ∙ w.if-dominates.true) in
+          (let e = row_in a.c l.kept.columns rows l.row-index _ c.loop-row-test.true (sym c.dominates.ensures ∙ w.if-dominates.true) in
           record { so_far = grind (arith, common_steps, pad_more); short = grind arith })
       | else-dominates w ↦
-          (let e = row_out a.c a.ks rows l.row-index _ c.loop-row-test.true (sym c.dominates.ensures ∙ w.if-dominates.false) in
-          record { so_far = w.kept-is ∙ l.invariant.so_far ∙ ap (with_rows a.t) (sym e); short = grind arith })
+          (let e = row_out a.c a.kept.now.columns rows l.row-index _ c.loop-row-test.true (sym c.dominates.ensures ∙ w.if-dominates.false) in
+          record { so_far = w.kept-is ∙ l.invariant.so_far ∙ ap (with_rows a.kept.now) (sym e); short = grind arith })
     ]

@@ -7,6 +7,6 @@ use Rattle.view.proofs.keep_rows.Given as goal
 abbrev pub invariant-loop-row : goal.invariant-loop-row
 invariant-loop-row l =
     record {
-      so_far : l.kept ≡ with_rows l.fn.t (seen_rows l.c l.ks (take l.row-index l.row-items));
+      so_far : l.kept ≡ with_rows l.initial.kept (seen_rows l.c l.initial.kept.columns (take l.row-index l.row-items));
       short : l.kept.count ≤ l.row-index;
     }
