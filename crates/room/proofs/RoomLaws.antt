@@ -1,8 +1,8 @@
 -- Texts written one after another, and from a room's start.
 -- Assumes nothing.
-use mathlib.Core.Path.{◌∙◌, ◌≡◌, refl, sym}
+use mathlib.Core.Path.{◌∙◌, ◌≡◌, ap, refl, sym}
 use mathlib.Core.Bool.{Bool, false, true}
-use mathlib.Core.List.{[], ◌++◌, ◌∷◌}
+use mathlib.Core.List.{[], ◌++◌, ◌∷◌, append-nil, append_assoc}
 use Prim.Native.Nat.{◌+◌, ◌<◌, ◌≤◌, min, suc, ℕ}
 use native.Mathlib.Nat.{add-suc, add-zero, suc-add, zero-add}
 use native.Mathlib.Omega.{arith}
@@ -53,6 +53,23 @@ infixr 20 ◌then◌
 -- no text
 pub wrote_nothing : (l : Bytes) (at : ℕ) → length l ≤ most → at ≤ most → Wrote l at [] at l
 wrote_nothing l at h k = record { short = h; next = omega arith; room_is = refl }
+
+-- ---- a loop: of the text, `rest` is left to be written from p into the present room
+pub record LeftIn (room : Bytes) (at : ℕ) (text : Bytes) (p : ℕ) (room' : Bytes) (rest : Bytes) : Type 0 where
+  pub done : Bytes
+  pub wrote : Wrote room at done p room'
+  pub whole : done ++ rest ≡ text
+
+module _ {l : Bytes} {at : ℕ} {text : Bytes} where
+  pub in_all : length l ≤ most → at ≤ most → LeftIn l at text at l text
+  in_all h k = record { done = []; wrote = wrote_nothing l at h k; whole = refl }
+
+  pub in_none : {p : ℕ} {l₁ : Bytes} → LeftIn l at text p l₁ [] → Wrote l at text p l₁
+  in_none h = rw (← h.whole, append-nil h.done) h.wrote
+
+  -- a is written, and r is left
+  pub in_less : {p q : ℕ} {l₁ l₂ rest : Bytes} (a r : Bytes) → LeftIn l at text p l₁ rest → Wrote l₁ p a q l₂ → rest ≡ a ++ r → LeftIn l at text q l₂ r
+  in_less a r h w e = record { done = h.done ++ a; wrote = h.wrote then w; whole = append_assoc h.done a r ∙ ap (λ (x : Bytes). h.done ++ x) (sym e) ∙ h.whole }
 
 -- ---- from a room's start
 -- a text that fits stands there, and the room's other bytes stay

@@ -2,10 +2,13 @@
 // room a pen only counts.
 #![tactic(auto)]
 
-ghost use Rattle.std.specs.Prelude.{◌≡◌, [], ◌∷◌, ◌+◌, ◌/◌, ◌^◌, ◌≤◌, reverse};
+ghost use Rattle.std.specs.Prelude.{◌≡◌, [], ◌∷◌, ◌≤◌, reverse};
 ghost use Rattle.model.specs.Numbers.{dec_text, digits};
 
+mod bytes;
+
 use arrayvec::ArrayVec;
+use bytes::{put_byte, put_hex, put_text};
 use text::numbers::digit_byte;
 
 // A room, and the place where the next byte goes.
@@ -40,29 +43,23 @@ impl<'a> Pen<'a> {
     pub fn byte(&mut self, b: u8)
         ensures { Writes self.old (b ∷ []) self.new }
     {
-        if self.place < self.room.len() {
-            self.room[self.place] = b;
-        }
-        self.place = self.place.saturating_add(1);
+        self.place = put_byte(self.room, self.place, b);
     }
 
     // A text that is given.
-    #[tactic(auto, using(crate::proofs::PenLaws::writes_none, crate::proofs::PenLaws::writes_next))]
+    #[tactic(auto, unfolding(crate::specs::Writing::Writes))]
     pub fn text(&mut self, text: &[u8])
         ensures { Writes self.old text.now self.new }
     {
-        for &b in text {
-            self.byte(b);
-        }
+        self.place = put_text(self.room, self.place, text);
     }
 
     // The last n hex digits of a number.
+    #[tactic(auto, unfolding(crate::specs::Writing::Writes))]
     pub fn hex(&mut self, v: u64, n: usize)
         ensures { Writes self.old (digits 16 n v) self.new }
     {
-        for k in (0..n).rev() {
-            self.byte(digit_byte(without(v, k)));
-        }
+        self.place = put_hex(self.room, self.place, v, n);
     }
 
     // A number in decimal, its digits copied round.
@@ -74,17 +71,6 @@ impl<'a> Pen<'a> {
             self.byte(digit);
         }
     }
-}
-
-// A number without its last k hex digits.
-#[tactic(auto, using(crate::proofs::DigitLaws::pow_16))]
-fn without(v: u64, k: usize) -> u64
-    ensures { result ≡ v / 16 ^ k }
-{
-    if 16 <= k {
-        return 0;
-    }
-    v >> (4 * k)
 }
 
 // A number's decimal digits, made back to front.
