@@ -129,13 +129,17 @@ module _ (X : Option (List Field)) (fs : List (Option Field)) (n : ℕ) where
   row_rests [] k h e = record { room = simp length-set k.room; so_far = rw (place-none (omega (arith, k.room))) k.so_far; each = inr refl }
   row_rests (x ∷ l) k h e = absurd (search rules)
 
+  -- where some are left, all is what comes of the next field
+  by_next : (x : Bytes) (l : List Bytes) (o : Step (Class × Value)) → Going X fs n (x ∷ l) → both_by (class 8) (value 8) (x ∷ l) ≡ o → X ≡ map_o added (and_then o onwards)
+  by_next x l o k e = k.so_far ∙ ap (map_o added) (some_by x l ∙ ap (λ (o : Step (Class × Value)). and_then o onwards) e)
+
   -- where something is left that can't be read, nothing is read
   pub row_breaks : (old new : Reader) (o : Option Field) → Going X fs n (left old) → none_left (left old) ≡ false → o ≡ None → Takes (both_by (class 8) (value 8)) old (map_o of_field o) new → None ≡ and_then X eight
   row_breaks old new o k e z t = go (left old) k e (ap (λ (o : Option Field). map_o (λ (a : Class × Value). (a, left new)) (map_o of_field o)) (sym z) ∙ t.0)
     where
       go : (l : List Bytes) → Going X fs n l → none_left l ≡ false → None ≡ both_by (class 8) (value 8) l → None ≡ and_then X eight
       go [] k e z = absurd (search rules)
-      go (x ∷ l) k e z = sym (ap (λ (q : Option (List Field)). and_then q eight) (k.so_far ∙ ap (map_o added) (some_by x l ∙ ap (λ (o : Step (Class × Value)). and_then o onwards) (sym z))))
+      go (x ∷ l) k e z = sym (ap (λ (q : Option (List Field)). and_then q eight) (by_next x l None k (sym z)))
 
   -- all places have been come to, and nothing is left
   pub row_ends : (l : List Bytes) (u : Unit {0}) → Going X fs n l → n ≡ 8 → Some u ≡ when (none_left l) (tt {0}) → Some (leading fs) ≡ and_then X eight
@@ -151,9 +155,6 @@ module _ (X : Option (List Field)) (fs : List (Option Field)) (n : ℕ) where
   row_stops [] k h z = nothing_is z
   row_stops (x ∷ l) k h z = go k.each
     where
-      to : (o : Step (Class × Value)) → both_by (class 8) (value 8) (x ∷ l) ≡ o → X ≡ map_o added (and_then o onwards)
-      to o e = k.so_far ∙ ap (map_o added) (some_by x l ∙ ap (λ (o : Step (Class × Value)). and_then o onwards) e)
-
       wide : length (leading (take n fs)) ≡ 8 → (f : Field) (q : Option (List Field)) → None ≡ and_then (map_o (λ (r : List Field). added (f ∷ r)) q) eight
       wide p f None = refl
       wide p f (Some r) =
@@ -161,11 +162,11 @@ module _ (X : Option (List Field)) (fs : List (Option Field)) (n : ℕ) where
           rw (lt-leb (length (added (f ∷ r))) 8 y)
 
       full : length (leading (take n fs)) ≡ 8 → (o : Step (Class × Value)) → both_by (class 8) (value 8) (x ∷ l) ≡ o → None ≡ and_then X eight
-      full p None e = sym (ap (λ (q : Option (List Field)). and_then q eight) (to None e))
+      full p None e = sym (ap (λ (q : Option (List Field)). and_then q eight) (by_next x l None k e))
       full p (Some y) e =
           let f : Field = record { class = y.0.0; value = y.0.1 } in
           wide p f (read_fields 8 y.1)
-          ∙ sym (ap (λ (q : Option (List Field)). and_then q eight) (to (Some y) e ∙ map-twice added (λ (r : List Field). f ∷ r) (read_fields 8 y.1)))
+          ∙ sym (ap (λ (q : Option (List Field)). and_then q eight) (by_next x l (Some y) k e ∙ map-twice added (λ (r : List Field). f ∷ r) (read_fields 8 y.1)))
 
       go : (length (leading (take n fs)) ≡ n) ⊎ (x ∷ l ≡ []) → None ≡ and_then X eight
       go (inl p) = full (omega arith) (both_by (class 8) (value 8) (x ∷ l)) refl
